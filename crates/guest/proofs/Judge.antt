@@ -1,0 +1,53 @@
+-- Laws of judgements. Assumes nothing.
+use mathlib.Core.Path.{_≡_, refl, sym, ap, _∙_}
+use mathlib.Core.List.{List, [], _∷_, _++_}
+use mathlib.Core.Bool.{Bool, true, false, cond}
+use Prim.Native.Nat.{ℕ, zero, suc, _<_}
+use native.Mathlib.Omega.{arith}
+use borrow.Author.Tests.{ne-eqb}
+use lib.Dec.{eqb}
+use Rattle.guest.specs.Judge.{Tests, judge, refusalOf}
+
+-- whatever is made of a judgement may be made of its answers
+pub judge-map : {A B : Type 0} (f : A → B) (ts : Tests) (r : ℕ → A) (a : A) → f (judge ts r a) ≡ judge ts (λ n. f (r n)) (f a)
+unfolding judge
+judge-map f [] r a = refl
+judge-map f ((n, true) ∷ ts) r a = judge-map f ts r a
+judge-map f ((n, false) ∷ ts) r a = refl
+
+-- tests after others are judged where those pass
+pub judge-append : {A : Type 0} (xs ys : Tests) (r : ℕ → A) (a : A) → judge (xs ++ ys) r a ≡ judge xs r (judge ys r a)
+unfolding judge
+judge-append [] ys r a = refl
+judge-append ((n, true) ∷ xs) ys r a = judge-append xs ys r a
+judge-append ((n, false) ∷ xs) ys r a = refl
+
+-- every test passes
+abbrev pub Passes : Tests → Type 0
+Passes [] = Unit {0}
+Passes ((n, b) ∷ ts) = (b ≡ true) × Passes ts
+
+pub judge-passes : {A : Type 0} (ts : Tests) (r : ℕ → A) (a : A) → Passes ts → judge ts r a ≡ a
+unfolding judge
+judge-passes [] r a p = refl
+judge-passes ((n, b) ∷ ts) r a p = rw (p .0) (judge-passes ts r a (p .1))
+
+-- every test refuses by a number other than 0
+abbrev pub Numbered : Tests → Type 0
+Numbered [] = Unit {0}
+Numbered ((n, b) ∷ ts) = (0 < n) × Numbered ts
+
+-- so the number 0 says that every test passed
+pub none-passes : (ts : Tests) → Numbered ts → refusalOf ts ≡ 0 → Passes ts
+unfolding judge
+none-passes [] k e = tt
+none-passes ((n, true) ∷ ts) k e = (refl, none-passes ts (k .1) e)
+none-passes ((n, false) ∷ ts) k e = absurd (omega arith)
+
+-- and a judgement goes by its number alone
+pub judge-number : {A : Type 0} (ts : Tests) (r : ℕ → A) (a : A) → Numbered ts
+    → judge ts r a ≡ cond (eqb (refusalOf ts) 0) a (r (refusalOf ts))
+unfolding judge
+judge-number [] r a k = refl
+judge-number ((n, true) ∷ ts) r a k = judge-number ts r a (k .1)
+judge-number ((n, false) ∷ ts) r a k = rw (ne-eqb n 0 (λ e. omega arith))

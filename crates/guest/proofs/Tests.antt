@@ -1,0 +1,23 @@
+-- What the branches of code say of the tests of a definition. Assumes nothing.
+use mathlib.Core.Path.{_≡_, refl, sym, _∙_}
+use mathlib.Core.Bool.{Bool, true, false, not, _&&_}
+use borrow.Author.Needs.{needs}
+use borrow.Author.Tests.{not-true, not-false, lt-ltb, le-ltb, le-leb, lt-leb, eq-eqb, ne-eqb}
+
+-- what a branch on `r` knows of the definition's test b
+pub told : {r b v : Bool} → r ≡ b → r ≡ v → b ≡ v
+told e h = sym e ∙ h
+
+-- and a branch on `!r`
+pub no : {r b : Bool} → r ≡ b → not r ≡ true → b ≡ false
+no e h = sym e ∙ not-true _ h
+
+pub yes : {r b : Bool} → r ≡ b → not r ≡ false → b ≡ true
+yes e h = sym e ∙ not-false _ h
+
+pub both : (a b : Bool) → a && b ≡ true → (a ≡ true) × (b ≡ true)
+both true b h = (refl, h)
+both false true h = (h, refl)
+both false false h = (h, h)
+
+pub ruleset tests = (needs, lt-ltb, le-ltb, le-leb, lt-leb, eq-eqb, ne-eqb)

@@ -1,0 +1,5 @@
+pub mod Refusals
+pub mod Judge
+pub mod Memory
+pub mod Fields
+pub mod Answers

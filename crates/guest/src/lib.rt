@@ -1,0 +1,184 @@
+// Guest memory: a lent slice of bytes, whose first byte has the address 0. No other crate indexes it.
+pub mod refusal;
+
+ghost use mathlib.Core.Path.{_≡_};
+ghost use Prim.Native.Nat.{_+_, _≤_, _<_};
+ghost use lib.ListN.{length};
+ghost use Rattle.guest.specs.Memory.{le, inside, trbAt, write};
+ghost use Rattle.guest.specs.Fields.{dwordsOf, bytesOfDwords};
+ghost use Rattle.guest.specs.Answers.{numberAt, trbRead, writeNumber, writeMemory};
+
+// A number read from memory, or the refusal's number.
+pub enum Number {
+    Value(u64),
+    Refused(u8),
+}
+
+// The sixteen bytes of a TRB; beside a refusal they are 0, and beside the bytes the refusal is 0.
+pub struct TrbRead {
+    pub refusal: u8,
+    pub trb: [u8; 16],
+}
+
+// Sixteen bytes as four little-endian numbers of four bytes, as xHCI draws a TRB.
+pub struct Dwords {
+    pub d0: u32,
+    pub d1: u32,
+    pub d2: u32,
+    pub d3: u32,
+}
+
+// Whether all `length` bytes from `address` on are in the memory.
+pub fn inside(mem: &[u8], address: u64, length: u64) -> bool
+    ensures { λ r. ⌜ r ≡ inside (now (mem .entry)) address length ⌝ }
+{
+    let n = mem.len() as u64;
+    if n < length {
+        return false;
+    }
+    if n - length < address {
+        return false;
+    }
+    true
+}
+
+fn wide(b: u8) -> u16
+    ensures { λ r. ⌜ (r ≡ b) × (r < 256) ⌝ }
+{
+    b as u16
+}
+
+// Numbers of two, four and eight bytes: each is two of half its width.
+
+fn two(mem: &[u8], at: usize) -> u16
+    requires { ⌜ at + 2 ≤ length (now mem) ⌝ }
+    ensures { λ r. ⌜ r ≡ le (now (mem .entry)) at 2 ⌝ }
+{
+    wide(mem[at]) + 256 * wide(mem[at + 1])
+}
+
+fn four(mem: &[u8], at: usize) -> u32
+    requires { ⌜ at + 4 ≤ length (now mem) ⌝ }
+    ensures { λ r. ⌜ r ≡ le (now (mem .entry)) at 4 ⌝ }
+{
+    let low = two(mem, at) as u32;
+    let high = two(mem, at + 2) as u32;
+    low + 0x1_0000 * high
+}
+
+fn eight(mem: &[u8], at: usize) -> u64
+    requires { ⌜ at + 8 ≤ length (now mem) ⌝ }
+    ensures { λ r. ⌜ r ≡ le (now (mem .entry)) at 8 ⌝ }
+{
+    let low = four(mem, at) as u64;
+    let high = four(mem, at + 4) as u64;
+    low + 0x1_0000_0000 * high
+}
+
+pub fn read2(mem: &[u8], address: u64) -> Number
+    ensures { λ r. ⌜ r ≡ numberAt (now (mem .entry)) address 2 ⌝ }
+{
+    if inside(mem, address, 2) {
+        Number::Value(two(mem, address as usize) as u64)
+    } else {
+        Number::Refused(refusal::OUTSIDE)
+    }
+}
+
+pub fn read4(mem: &[u8], address: u64) -> Number
+    ensures { λ r. ⌜ r ≡ numberAt (now (mem .entry)) address 4 ⌝ }
+{
+    if inside(mem, address, 4) {
+        Number::Value(four(mem, address as usize) as u64)
+    } else {
+        Number::Refused(refusal::OUTSIDE)
+    }
+}
+
+pub fn read8(mem: &[u8], address: u64) -> Number
+    ensures { λ r. ⌜ r ≡ numberAt (now (mem .entry)) address 8 ⌝ }
+{
+    if inside(mem, address, 8) {
+        Number::Value(eight(mem, address as usize))
+    } else {
+        Number::Refused(refusal::OUTSIDE)
+    }
+}
+
+fn sixteen(mem: &[u8], at: usize) -> [u8; 16]
+    requires { ⌜ at + 16 ≤ length (now mem) ⌝ }
+    ensures { λ r. ⌜ r ≡ trbAt (now (mem .entry)) at ⌝ }
+{
+    let mut trb = [0u8; 16];
+    bytes::copy(&mem[at..at + 16], &mut trb);
+    trb
+}
+
+pub fn read_trb(mem: &[u8], address: u64) -> TrbRead
+    ensures { λ r. ⌜ r ≡ trbRead (now (mem .entry)) address ⌝ }
+{
+    if inside(mem, address, 16) {
+        TrbRead {
+            refusal: 0,
+            trb: sixteen(mem, address as usize),
+        }
+    } else {
+        TrbRead {
+            refusal: refusal::OUTSIDE,
+            trb: [0u8; 16],
+        }
+    }
+}
+
+fn store(mem: &mut [u8], at: usize, trb: [u8; 16])
+    requires { ⌜ at + 16 ≤ length (now mem) ⌝ }
+    ensures { λ _. ⌜ now (mem .exit) ≡ write (now (mem .entry)) at trb ⌝ }
+{
+    bytes::copy(&trb, &mut mem[at..at + 16]);
+}
+
+// Writes the sixteen bytes and answers 0; or changes nothing and answers the refusal's number.
+pub fn write_trb(mem: &mut [u8], address: u64, trb: [u8; 16]) -> u8
+    ensures { λ r. ⌜ (r ≡ writeNumber (now (mem .entry)) address) × (now (mem .exit) ≡ writeMemory (now (mem .entry)) address trb) ⌝ }
+{
+    if inside(mem, address, 16) {
+        store(mem, address as usize, trb);
+        0
+    } else {
+        refusal::OUTSIDE
+    }
+}
+
+pub fn split(trb: [u8; 16]) -> Dwords
+    ensures { λ r. ⌜ r ≡ dwordsOf trb ⌝ }
+{
+    Dwords {
+        d0: four(&trb, 0),
+        d1: four(&trb, 4),
+        d2: four(&trb, 8),
+        d3: four(&trb, 12),
+    }
+}
+
+pub fn join(d: Dwords) -> [u8; 16]
+    ensures { λ r. ⌜ r ≡ bytesOfDwords d ⌝ }
+{
+    [
+        (d.d0 % 256) as u8,
+        (d.d0 / 0x100 % 256) as u8,
+        (d.d0 / 0x1_0000 % 256) as u8,
+        (d.d0 / 0x100_0000 % 256) as u8,
+        (d.d1 % 256) as u8,
+        (d.d1 / 0x100 % 256) as u8,
+        (d.d1 / 0x1_0000 % 256) as u8,
+        (d.d1 / 0x100_0000 % 256) as u8,
+        (d.d2 % 256) as u8,
+        (d.d2 / 0x100 % 256) as u8,
+        (d.d2 / 0x1_0000 % 256) as u8,
+        (d.d2 / 0x100_0000 % 256) as u8,
+        (d.d3 % 256) as u8,
+        (d.d3 / 0x100 % 256) as u8,
+        (d.d3 / 0x1_0000 % 256) as u8,
+        (d.d3 / 0x100_0000 % 256) as u8,
+    ]
+}
