@@ -118,3 +118,15 @@ pub bytes-field : (i k m lo w : ℕ) (xs : List ℕ) (a : ℕ) → Bytes xs → 
 bytes-field i k m lo w xs a b h =
     rw (← shr-shr (le xs a (i + (k + m))) (8 * i) lo, above i (k + m) xs a b, le-add k m xs (a + i), pow256 k)
     (lowest (le xs (a + i) k) (le xs (a + i + k) m) (8 * k) lo w h)
+
+-- the same in a dword of a TRB: a field that lies in the k bytes from byte `at` on, which stand in one dword
+pub dword-field : (xs : List ℕ) (at k lo w : ℕ) → Bytes xs → at % 4 + k ≤ 4 → lo + w ≤ 8 * k
+    → bits (le xs (4 * (at / 4)) 4) (8 * (at % 4) + lo) w ≡ bits (le xs at k) lo w
+dword-field xs at k lo w b f h =
+    let i = at % 4 in
+    let m = 4 - (i + k) in
+    let whole : 4 ≡ i + (k + m) = omega arith in
+    let place : 4 * (at / 4) + i ≡ at = omega arith in
+    ap (λ (n : ℕ). bits (le xs (4 * (at / 4)) n) (8 * i + lo) w) whole
+    ∙ bytes-field i k m lo w xs (4 * (at / 4)) b h
+    ∙ ap (λ (n : ℕ). bits (le xs n k) lo w) place

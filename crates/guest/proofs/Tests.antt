@@ -1,6 +1,8 @@
 -- What the branches of code say of the tests of a definition. Assumes nothing.
 use mathlib.Core.Path.{_≡_, refl, sym, _∙_}
 use mathlib.Core.Bool.{Bool, true, false, not, _&&_}
+use Prim.Native.Nat.{ℕ}
+use lib.Dec.{eqb}
 use borrow.Author.Needs.{needs}
 use borrow.Author.Tests.{not-true, not-false, lt-ltb, le-ltb, le-leb, lt-leb, eq-eqb, ne-eqb}
 
@@ -21,3 +23,10 @@ both false true h = (h, refl)
 both false false h = (h, h)
 
 pub ruleset tests = (needs, lt-ltb, le-ltb, le-leb, lt-leb, eq-eqb, ne-eqb)
+
+-- what a comparison of a result r with a number knows of the value b that it stands for
+pub same : {r b n : ℕ} → r ≡ b → r ≡ n → eqb b n ≡ true
+same e h = eq-eqb _ _ (sym e ∙ h)
+
+pub differs : {r b n : ℕ} → r ≡ b → (r ≡ n → ⊥) → eqb b n ≡ false
+differs e h = ne-eqb _ _ (λ p. h (e ∙ p))

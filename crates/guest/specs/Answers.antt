@@ -7,7 +7,7 @@ use Rattle.guest.specs.Judge.{Tests, judge, refusalOf}
 use Rattle.guest.specs.Memory.{Memory, inside, le, trbAt, write}
 use Rattle.guest.specs.declared.Number.{Number}
 use Rattle.guest.specs.declared.Number.the-variants.{Value, Refused}
-use Rattle.guest.specs.declared.TrbRead.{TrbRead}
+use Rattle.guest.specs.declared.TrbAnswer.{TrbAnswer}
 
 abbrev pub touches : Memory → ℕ → ℕ → Tests
 touches m a k = (outside, inside m a k) ∷ []
@@ -16,7 +16,7 @@ touches m a k = (outside, inside m a k) ∷ []
 abbrev pub numberAt : Memory → ℕ → ℕ → Number
 numberAt m a k = judge (touches m a k) Refused (Value (le m a k))
 
-abbrev pub trbRead : Memory → ℕ → TrbRead
+abbrev pub trbRead : Memory → ℕ → TrbAnswer
 trbRead m a =
     judge (touches m a 16)
     (λ n. record { refusal = n; trb = replicate 16 0 })

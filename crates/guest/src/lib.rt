@@ -14,8 +14,8 @@ pub enum Number {
     Refused(u8),
 }
 
-// The sixteen bytes of a TRB; beside a refusal they are 0, and beside the bytes the refusal is 0.
-pub struct TrbRead {
+// Sixteen bytes, with refusal 0; or a refusal, with sixteen zeros.
+pub struct TrbAnswer {
     pub refusal: u8,
     pub trb: [u8; 16],
 }
@@ -114,16 +114,16 @@ fn sixteen(mem: &[u8], at: usize) -> [u8; 16]
     trb
 }
 
-pub fn read_trb(mem: &[u8], address: u64) -> TrbRead
+pub fn read_trb(mem: &[u8], address: u64) -> TrbAnswer
     ensures { λ r. ⌜ r ≡ trbRead (now (mem .entry)) address ⌝ }
 {
     if inside(mem, address, 16) {
-        TrbRead {
+        TrbAnswer {
             refusal: 0,
             trb: sixteen(mem, address as usize),
         }
     } else {
-        TrbRead {
+        TrbAnswer {
             refusal: refusal::OUTSIDE,
             trb: [0u8; 16],
         }

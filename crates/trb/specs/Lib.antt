@@ -1,0 +1,3 @@
+pub mod Trb
+pub mod Links
+pub mod Commands
