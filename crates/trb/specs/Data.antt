@@ -1,0 +1,32 @@
+-- The data that a Normal or Data Stage TRB points at (xHCI 4.11.2, 6.4.1.1, 6.4.1.2.2): none in memory where the TRB holds it itself.
+use Prim.Native.Nat.{ℕ}
+use mathlib.Core.List.{List, [], _∷_}
+use mathlib.Core.Bool.{not}
+use Rattle.guest.specs.Refusals.{outside, immediate}
+use Rattle.guest.specs.Judge.{Tests, judge, refusalOf}
+use Rattle.guest.specs.Memory.{Memory, inside, part}
+use Rattle.trb.specs.declared.transfer.NormalTrb.{NormalTrb}
+use Rattle.trb.specs.declared.transfer.DataStageTrb.{DataStageTrb}
+use Rattle.trb.specs.declared.data.TrbDmaInfo.{TrbDmaInfo}
+
+abbrev pub ofNormal : NormalTrb → TrbDmaInfo
+ofNormal t =
+    record { «data_pointer» = t .«data_pointer»; «transfer_length» = t .«transfer_length»; «immediate_data» = t .«immediate_data» }
+
+abbrev pub ofDataStage : DataStageTrb → TrbDmaInfo
+ofDataStage t =
+    record { «data_pointer» = t .«data_pointer»; «transfer_length» = t .«transfer_length»; «immediate_data» = t .«immediate_data» }
+
+-- refusals 13, then 1
+abbrev pub dataTests : Memory → TrbDmaInfo → Tests
+dataTests m i = (immediate, not (i .«immediate_data»)) ∷ (outside, inside m (i .«data_pointer») (i .«transfer_length»)) ∷ []
+
+unfoldable pub dataRefusal : Memory → TrbDmaInfo → ℕ
+dataRefusal m i = refusalOf (dataTests m i)
+
+-- the bytes, none beside a refusal, and the address of the first, 0 beside a refusal
+unfoldable pub dataOf : Memory → TrbDmaInfo → List ℕ
+dataOf m i = judge (dataTests m i) (λ n. []) (part m (i .«data_pointer») (i .«transfer_length»))
+
+unfoldable pub startOf : Memory → TrbDmaInfo → ℕ
+startOf m i = judge (dataTests m i) (λ n. 0) (i .«data_pointer»)
