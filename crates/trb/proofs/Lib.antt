@@ -1,2 +1,4 @@
 pub mod Raw
+pub mod Pack
+pub mod Coded
 pub mod Parts

@@ -1,4 +1,5 @@
 pub mod Trb
+pub mod Events
 pub mod Links
 pub mod Commands
 pub mod Transfers

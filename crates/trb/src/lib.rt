@@ -1,4 +1,5 @@
 // Transfer Request Blocks (xHCI 4.11, 6.4): sixteen bytes taken apart and put together, a module for each kind.
+pub mod event;
 pub mod link;
 pub mod command;
 pub mod transfer;
@@ -41,10 +42,17 @@ fn flag(raw: RawTrbBuffer, at: usize, lo: u8) -> bool
     (raw[at] >> lo) % 2 == 1
 }
 
+fn byte(raw: RawTrbBuffer, at: usize) -> u8
+    requires { ⌜ at < 16 ⌝ }
+    ensures { λ r. ⌜ r ≡ bits (dword raw (at / 4)) (8 * (at % 4)) 8 ⌝ }
+{
+    raw[at]
+}
+
 fn slot_id(raw: RawTrbBuffer) -> u8
     ensures { λ r. ⌜ r ≡ field raw 3 24 8 ⌝ }
 {
-    raw[15]
+    byte(raw, 15)
 }
 
 fn endpoint_id(raw: RawTrbBuffer) -> u8

@@ -111,22 +111,12 @@ fn normal(raw: RawTrbBuffer) -> NormalTrb
     }
 }
 
-fn byte(raw: RawTrbBuffer, at: usize) -> u8
-    requires { ⌜ at < 16 ⌝ }
-    ensures { λ r. ⌜ r ≡ bits (dword raw (at / 4)) (8 * (at % 4)) 8 ⌝ }
-{
-    raw[at]
-}
-
-ghost use Prim.Native.Nat.{_*_, _/_, _%_, _<_};
-ghost use Rattle.guest.specs.Fields.{bits, dword};
-
 fn setup_stage(raw: RawTrbBuffer) -> SetupStageTrb
     ensures { λ r. ⌜ r ≡ setupStageTrb raw ⌝ }
 {
     SetupStageTrb {
-        request_type: byte(raw, 0),
-        request: byte(raw, 1),
+        request_type: crate::byte(raw, 0),
+        request: crate::byte(raw, 1),
         value: crate::two(raw, 2),
         index: crate::two(raw, 4),
         length: crate::two(raw, 6),

@@ -5,8 +5,8 @@ use native.Mathlib.Omega.{arith}
 use lib.Dec.{lit≤}
 use Rattle.trb.proofs.Raw.{Raw, byte-field}
 use borrow.Author.Needs.{needs}
-use Rattle.trb.proofs.transfer.byte.Statement.{statement}
-use Rattle.trb.proofs.transfer.byte.Tie as tie
+use Rattle.trb.proofs.byte.Statement.{statement}
+use Rattle.trb.proofs.byte.Tie as tie
 
 pub byte-spec : {M : Type 1} → statement M
 byte-spec =

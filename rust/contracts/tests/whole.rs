@@ -1,0 +1,111 @@
+//! Runs the program over a small repository, as the gate does.
+
+use std::fs;
+use std::path::{Path, PathBuf};
+use std::process::{Command, Output};
+
+/// A repository in a folder of its own, which goes when it does.
+struct Repository(PathBuf);
+
+impl Repository {
+    fn new(name: &str) -> Self {
+        let unique = format!("contracts-{name}-{}", std::process::id());
+        let folder = std::env::temp_dir().join(unique);
+        fs::create_dir(&folder).expect("a folder of that name is not there yet");
+        Repository(folder)
+    }
+
+    fn write(&self, name: &str, text: &str) {
+        let file = self.0.join(name);
+        let folder = file.parent().unwrap_or(Path::new("."));
+        fs::create_dir_all(folder).expect("the folder can be made");
+        fs::write(file, text).expect("the file can be written");
+    }
+
+    fn check(&self) -> (Option<i32>, String) {
+        let output = run(&[self.0.as_os_str()]);
+        let text = String::from_utf8(output.stdout).expect("the output is text");
+        (output.status.code(), text)
+    }
+}
+
+impl Drop for Repository {
+    fn drop(&mut self) {
+        let _ = fs::remove_dir_all(&self.0);
+    }
+}
+
+fn run(arguments: &[&std::ffi::OsStr]) -> Output {
+    Command::new(env!("CARGO_BIN_EXE_contracts"))
+        .args(arguments)
+        .output()
+        .expect("the program can be run")
+}
+
+const RING: &str = "ghost use mathlib.Core.Path.{_≡_};
+
+impl Ring {
+    pub fn new(place: u64) -> Self
+        ensures { λ r. ⌜ r ≡ ringAt place ⌝ }
+    {
+        Ring { place }
+    }
+}
+
+pub fn fill(mem: &mut [u8])
+    ensures { λ _. ⌜ length (now (mem .exit)) ≡ length (now (mem .entry)) ⌝ }
+{
+}
+";
+
+fn repository(name: &str) -> Repository {
+    let made = Repository::new(name);
+    made.write("crates.txt", "trb:\nshow: trb io\n");
+    made.write("crates/trb/src/lib.rt", "pub mod ring;\n");
+    made.write("crates/trb/src/ring.rt", RING);
+    made.write("crates/trb/specs/Lib.antt", "pub mod Rings\n");
+    made.write("crates/show/src/main.rt", "pub fn main() {}\n");
+    made.write("docs/LOOSE.md", "- `trb::ring::fill`: any bytes will do.\n");
+    made.write(
+        "docs/PROMISES.md",
+        "| `trb::ring::Ring::new` | ringAt |\n| `trb::ring::fill` | length |\n",
+    );
+    made
+}
+
+#[test]
+fn a_good_repository_passes() {
+    let (status, text) = repository("good").check();
+    assert_eq!(text, "contracts: 2 public functions, 1 loose, 0 faults\n");
+    assert_eq!(status, Some(0));
+}
+
+#[test]
+fn faults_are_told_in_order() {
+    let made = repository("bad");
+    made.write("docs/LOOSE.md", "- `trb::fill`: any bytes will do.\n");
+    made.write("crates/show/specs/Lib.antt", "_<_ : ℕ → ℕ → Type 0\n");
+    let (status, text) = made.check();
+    let expected = "\
+crates/show/specs/Lib.antt:1: _<_: is defined here, but a contract's symbol means what the library says
+crates/trb/src/ring.rt:11: trb::ring::fill: no equation of `mem` at exit: `now (mem .exit) ≡ ..`; and docs/LOOSE.md gives no reason
+docs/LOOSE.md:1: trb::fill: names no public function
+contracts: 2 public functions, 0 loose, 3 faults
+";
+    assert_eq!(text, expected);
+    assert_eq!(status, Some(1));
+}
+
+#[test]
+fn misuse_is_one_clear_line() {
+    let made = repository("misused");
+    fs::remove_file(made.0.join("docs/PROMISES.md")).expect("the page is there");
+    let root = made.0.as_os_str();
+    for arguments in [&[][..], &[root], &[root, root]] {
+        let output = run(arguments);
+        assert_eq!(output.status.code(), Some(2));
+        assert!(output.stdout.is_empty());
+        let line = String::from_utf8_lossy(&output.stderr).into_owned();
+        assert!(line.starts_with("contracts: ") && line.lines().count() == 1);
+    }
+}
