@@ -51,3 +51,10 @@ unfolding judge
 judge-number [] r a k = refl
 judge-number ((n, true) ∷ ts) r a k = judge-number ts r a (k .1)
 judge-number ((n, false) ∷ ts) r a k = rw (ne-eqb n 0 (λ e. omega arith))
+
+-- to show a property of a judgement, show it of each refusal, and of the answer where every test passes
+pub judge-by : {A : Type 0} (P : A → Type 0) (ts : Tests) (r : ℕ → A) (a : A) → ((n : ℕ) → P (r n)) → (Passes ts → P a) → P (judge ts r a)
+unfolding judge
+judge-by P [] r a refused passed = passed tt
+judge-by P ((n, true) ∷ ts) r a refused passed = judge-by P ts r a refused (λ p. passed (refl, p))
+judge-by P ((n, false) ∷ ts) r a refused passed = refused n

@@ -2,3 +2,4 @@ pub mod Raw
 pub mod Pack
 pub mod Coded
 pub mod Parts
+pub mod OneEncoding

@@ -46,14 +46,21 @@ cut-pack (w ∷ ws) (v ∷ vs) lo n f e =
 pub whole : (ws vs : List ℕ) (n : ℕ) → n < 2 ^ total ws → vs ≡ cut ws 0 n → pack ws vs ≡ n
 whole ws vs n h e = ap (pack ws) e ∙ pack-cut ws 0 n (rw (div-one n) h) ∙ div-one n
 
-pub fields : (ws vs : List ℕ) → Fit ws vs → cut ws 0 (pack ws vs) ≡ vs
+fields : (ws vs : List ℕ) → Fit ws vs → cut ws 0 (pack ws vs) ≡ vs
 fields ws vs f = cut-pack ws vs 0 (pack ws vs) f (div-one (pack ws vs))
 
-pub pack-lt : (ws vs : List ℕ) → Fit ws vs → pack ws vs < 2 ^ total ws
+pack-lt : (ws vs : List ℕ) → Fit ws vs → pack ws vs < 2 ^ total ws
 pack-lt [] [] f = omega arith
 pack-lt [] (v ∷ vs) f = absurd f
 pack-lt (w ∷ ws) [] f = absurd f
 pack-lt (w ∷ ws) (v ∷ vs) f = rw (add-comm v, pow-add 2 (total ws) w) (digits-lt (pack-lt ws vs (f .1)) (f .0))
+
+pub record Packed (ws vs : List ℕ) : Type 0 where
+  pub small : pack ws vs < 2 ^ total ws
+  pub read : cut ws 0 (pack ws vs) ≡ vs
+
+pub packed : (ws vs : List ℕ) → Fit ws vs → Packed ws vs
+packed ws vs f = record { small = pack-lt ws vs f; read = fields ws vs f }
 
 -- ---- the code's sums
 
