@@ -3,3 +3,4 @@ pub mod Pack
 pub mod Coded
 pub mod Parts
 pub mod OneEncoding
+pub mod Shown

@@ -2,6 +2,7 @@
 use mathlib.Core.Path.{_≡_, refl, sym, ap, _∙_, subst}
 use mathlib.Core.Bool.{Bool, true, false, cond, _&&_}
 use mathlib.Core.List.{List, [], _∷_}
+use mathlib.Core.Logic.{_↔_}
 use Prim.{Unit, tt}
 use Prim.Native.Nat.{ℕ, zero, suc, _+_, _*_, _^_, _<_}
 use native.Mathlib.Omega.{arith}
@@ -59,6 +60,20 @@ zeros trb ((k, lo, w) ∷ fs) h =
     let p = both (eqb (field trb k lo w) 0) (clear trb fs) h in
     (eqb-true (field trb k lo w) 0 (p .0), zeros trb fs (p .1))
 
+-- ---- what is written is an event whose fields are of their types and fit
+
+-- the fields are of their types
+abbrev pub Typed : EventTrb → Type 0
+Typed (EventTrb.Transfer t) = (t .«trb_pointer» < 2 ^ 64) × (t .«endpoint_id» < 2 ^ 8) × (t .«slot_id» < 2 ^ 8)
+Typed (EventTrb.CommandCompletion t) = (t .«command_trb_pointer» < 2 ^ 64) × (t .«slot_id» < 2 ^ 8)
+Typed (EventTrb.PortStatusChange t) = t .«port_id» < 2 ^ 8
+
+-- sixteen bytes are those of the event e with the cycle bit c
+pub record Written (e : EventTrb) (c : Bool) (trb : List ℕ) : Type 0 where
+  pub typed : Typed e
+  pub fits : valid e ≡ true
+  pub bytes : eventBytes e c ≡ trb
+
 -- ---- what is read was written
 
 -- a reading is a refusal, or an event that is valid and whose dwords, with the cycle bit read, are those that were read
@@ -66,7 +81,7 @@ abbrev Sound : List ℕ → ParsedEvent → Type 0
 Sound trb p = soundIn (p .variant)
   where
     soundIn : EventVariant → Type 0
-    soundIn (EventVariant.Event e) = (valid e ≡ true) × (eventDwords e (cycleOf trb) ≡ dwordsOf trb)
+    soundIn (EventVariant.Event e) = Typed e × (valid e ≡ true) × (eventDwords e (cycleOf trb) ≡ dwordsOf trb)
     soundIn (EventVariant.Unrecognized e) = Unit
 
 same-dwords : (d : Dwords) {a b c e : ℕ} → a ≡ d .d0 → b ≡ d .d1 → c ≡ d .d2 → e ≡ d .d3 → record { d0 = a; d1 = b; d2 = c; d3 = e } ≡ d
@@ -97,11 +112,13 @@ module _ (trb : List ℕ) (z : Sized (dwordsOf trb)) where
   sound-transfer t =
       judge-by (Sound trb) (readTests (isListed (codeIn trb)) (clear trb reservedInTransfer)) _ _ (λ n. tt)
       (λ p.
-      let r = zeros trb reservedInTransfer (p .1 .0) in
-      (lt-ltb (field trb 2 0 24) (2 ^ 24) (omega arith),
-      same-dwords (dwordsOf trb) low-half high-half (code-is (p .0))
-      (whole inTransfer (bit (cycleOf trb) ∷ 0 ∷ bit (flagOf trb 3 2) ∷ 0 ∷ types.transferEvent ∷ field trb 3 16 8 ∷ field trb 3 24 8 ∷ []) (dword trb 3) (z .z3)
-       (rw (flag-is 3 0, flag-is 3 2, r .0, r .1 .0, t)))))
+      let r = zeros trb reservedInTransfer (p .1 .0) in (
+        (omega arith, omega arith, omega arith),
+        lt-ltb (field trb 2 0 24) (2 ^ 24) (omega arith),
+        same-dwords (dwordsOf trb) low-half high-half (code-is (p .0))
+            (whole inTransfer (bit (cycleOf trb) ∷ 0 ∷ bit (flagOf trb 3 2) ∷ 0 ∷ types.transferEvent ∷ field trb 3 16 8 ∷ field trb 3 24 8 ∷ []) (dword trb 3) (z .z3)
+            (rw (flag-is 3 0, flag-is 3 2, r .0, r .1 .0, t))),
+      ))
 
   sound-command-completion : typeOf trb ≡ types.commandCompletionEvent → Sound trb (commandCompletionAs trb)
   unfolding valid eventDwords
@@ -109,11 +126,13 @@ module _ (trb : List ℕ) (z : Sized (dwordsOf trb)) where
       judge-by (Sound trb) (readTests (isListed (codeIn trb)) (clear trb reservedInCommandCompletion)) _ _ (λ n. tt)
       (λ p.
       let r = zeros trb reservedInCommandCompletion (p .1 .0) in
-      let low : bits (pointerOf trb) 0 4 ≡ 0 = omega (arith, r .0) in
-      (rw (eq-eqb _ 0 low, lt-ltb (field trb 2 0 24) (2 ^ 24) (omega arith)),
-      same-dwords (dwordsOf trb) low-half high-half (code-is (p .0))
-      (whole inCommandCompletion (bit (cycleOf trb) ∷ 0 ∷ types.commandCompletionEvent ∷ 0 ∷ field trb 3 24 8 ∷ []) (dword trb 3) (z .z3)
-       (rw (flag-is 3 0, r .1 .0, r .1 .1 .0, t)))))
+      let low : bits (pointerOf trb) 0 4 ≡ 0 = omega (arith, r .0) in (
+        (omega arith, omega arith),
+        rw (eq-eqb _ 0 low, lt-ltb (field trb 2 0 24) (2 ^ 24) (omega arith)),
+        same-dwords (dwordsOf trb) low-half high-half (code-is (p .0))
+            (whole inCommandCompletion (bit (cycleOf trb) ∷ 0 ∷ types.commandCompletionEvent ∷ 0 ∷ field trb 3 24 8 ∷ []) (dword trb 3) (z .z3)
+            (rw (flag-is 3 0, r .1 .0, r .1 .1 .0, t))),
+      ))
 
   sound-port-status-change : typeOf trb ≡ types.portStatusChangeEvent → Sound trb (portStatusChangeAs trb)
   unfolding valid eventDwords numberOf
@@ -121,13 +140,15 @@ module _ (trb : List ℕ) (z : Sized (dwordsOf trb)) where
       judge-by (Sound trb) (readTests (eqb (field trb 2 24 8) 1) (clear trb reservedInPortStatusChange)) _ _ (λ n. tt)
       (λ p.
       let r = zeros trb reservedInPortStatusChange (p .1 .0) in
-      let one : field trb 2 24 8 ≡ 1 = eqb-true _ 1 (p .0) in
-      (refl,
-      same-dwords (dwordsOf trb)
-      (whole inCode (0 ∷ field trb 0 24 8 ∷ []) (dword trb 0) (z .z0) (rw (r .0)))
-      (omega (arith, r .1 .0))
-      (whole inCode (0 ∷ 1 ∷ []) (dword trb 2) (z .z2) (rw (r .1 .1 .0, one)))
-      (whole inPortStatusChange (ofPortStatusChange (cycleOf trb)) (dword trb 3) (z .z3) (rw (flag-is 3 0, r .1 .1 .1 .0, r .1 .1 .1 .1 .0, t)))))
+      let one : field trb 2 24 8 ≡ 1 = eqb-true _ 1 (p .0) in (
+        omega arith,
+        refl,
+        same-dwords (dwordsOf trb)
+            (whole inCode (0 ∷ field trb 0 24 8 ∷ []) (dword trb 0) (z .z0) (rw (r .0)))
+            (omega (arith, r .1 .0))
+            (whole inCode (0 ∷ 1 ∷ []) (dword trb 2) (z .z2) (rw (r .1 .1 .0, one)))
+            (whole inPortStatusChange (ofPortStatusChange (cycleOf trb)) (dword trb 3) (z .z3) (rw (flag-is 3 0, r .1 .1 .1 .0, r .1 .1 .1 .1 .0, t))),
+      ))
 
   sound : Sound trb (eventOf trb)
   unfolding eventOf
@@ -137,12 +158,6 @@ module _ (trb : List ℕ) (z : Sized (dwordsOf trb)) where
       by-row (Sound trb) (eqb (typeOf trb) types.portStatusChangeEvent) _ _ (λ h. sound-port-status-change (eqb-true _ _ h)) (λ q. tt)))
 
 -- ---- what is written is read
-
--- the fields are of their types
-abbrev pub Typed : EventTrb → Type 0
-Typed (EventTrb.Transfer t) = (t .«trb_pointer» < 2 ^ 64) × (t .«endpoint_id» < 2 ^ 8) × (t .«slot_id» < 2 ^ 8)
-Typed (EventTrb.CommandCompletion t) = (t .«command_trb_pointer» < 2 ^ 64) × (t .«slot_id» < 2 ^ 8)
-Typed (EventTrb.PortStatusChange t) = t .«port_id» < 2 ^ 8
 
 code-packed : (v : ℕ) (k : CompletionCode) → v < 2 ^ 24 → Packed inCode (ofCode v k)
 code-packed v k h = packed inCode (ofCode v k) (h, (number-lt k, tt))
@@ -268,13 +283,17 @@ pub written-once : (e f : EventTrb) (c d : Bool) → Typed e → Typed f → val
     → eventBytes e c ≡ eventBytes f d → (e ≡ f) × (c ≡ d)
 written-once e f c d y x v u b =
     let read : answered e ≡ answered f = sym (read-after-write e c y v) ∙ ap eventOf b ∙ read-after-write f d x u in
-    let event : EventVariant.Event e ≡ EventVariant.Event f = ap (λ (p : ParsedEvent). p .variant) read in
-    (cc,
-    sym (cycle-after-write e c y v) ∙ ap cycleOf b ∙ cycle-after-write f d x u)
+    let event : EventVariant.Event e ≡ EventVariant.Event f = ap (λ (p : ParsedEvent). p .variant) read in (
+      cc,
+      sym (cycle-after-write e c y v) ∙ ap cycleOf b ∙ cycle-after-write f d x u,
+    )
 
--- what is read was written: sixteen bytes that are read as an event are its bytes, with the cycle bit that stands there
-pub read-was-written : (trb : List ℕ) (e : EventTrb) → Bytes trb → length trb ≡ 16 → eventOf trb .variant ≡ EventVariant.Event e
-    → (valid e ≡ true) × (eventBytes e (cycleOf trb) ≡ trb)
-read-was-written trb e b n r =
-    let s = rw r at (sound trb (split-sized trb b)) in
-    (s .0, ap bytesOfDwords (s .1) ∙ join-split trb b n)
+-- what is read was written: sixteen bytes are read as the event e exactly if they are its bytes, with the cycle bit that stands there
+pub reads-exactly : (trb : List ℕ) (e : EventTrb) → Bytes trb → length trb ≡ 16
+    → (eventOf trb .variant ≡ EventVariant.Event e) ↔ Written e (cycleOf trb) trb
+reads-exactly trb e b n = (
+  λ r.
+      let s = rw r at (sound trb (split-sized trb b)) in
+      record { typed = s .0; fits = s .1; bytes = ap bytesOfDwords (s .2) ∙ join-split trb b n },
+  λ w. ap (λ (l : List ℕ). eventOf l .variant) (sym (w .bytes)) ∙ ap (λ (p : ParsedEvent). p .variant) (read-after-write e (cycleOf trb) (w .typed) (w .fits)),
+)

@@ -116,13 +116,11 @@ fn configure_endpoint(raw: RawTrbBuffer) -> ParsedCommand
     if crate::low_bits(raw) != 0 {
         return refuse(refusal::RESERVED, 0, raw);
     }
-    answer(CommandTrbVariant::ConfigureEndpoint(
-        ConfigureEndpointCommandTrbData {
-            input_context_pointer: crate::aligned_pointer(raw),
-            deconfigure: crate::flag(raw, 13, 1),
-            slot_id: crate::slot_id(raw),
-        },
-    ))
+    answer(CommandTrbVariant::ConfigureEndpoint(ConfigureEndpointCommandTrbData {
+        input_context_pointer: crate::aligned_pointer(raw),
+        deconfigure: crate::flag(raw, 13, 1),
+        slot_id: crate::slot_id(raw),
+    }))
 }
 
 fn evaluate_context(raw: RawTrbBuffer) -> ParsedCommand
@@ -167,16 +165,14 @@ ghost use Rattle.guest.specs.Fields.{field};
 fn set_tr_dequeue_pointer(raw: RawTrbBuffer) -> ParsedCommand
     ensures { λ r. ⌜ r ≡ setTrDequeuePointerAs raw ⌝ }
 {
-    answer(CommandTrbVariant::SetTrDequeuePointer(
-        SetTrDequeuePointerCommandTrbData {
-            dequeue_cycle_state: crate::flag(raw, 0, 0),
-            stream_context_type: stream_context_type(raw),
-            dequeue_pointer: crate::aligned_pointer(raw),
-            stream_id: crate::two(raw, 10),
-            endpoint_id: crate::endpoint_id(raw),
-            slot_id: crate::slot_id(raw),
-        },
-    ))
+    answer(CommandTrbVariant::SetTrDequeuePointer(SetTrDequeuePointerCommandTrbData {
+        dequeue_cycle_state: crate::flag(raw, 0, 0),
+        stream_context_type: stream_context_type(raw),
+        dequeue_pointer: crate::aligned_pointer(raw),
+        stream_id: crate::two(raw, 10),
+        endpoint_id: crate::endpoint_id(raw),
+        slot_id: crate::slot_id(raw),
+    }))
 }
 
 fn reset_device(raw: RawTrbBuffer) -> ParsedCommand
@@ -202,8 +198,11 @@ impl CommandTrbVariant {
             trb_types::STOP_ENDPOINT_COMMAND => stop_endpoint(raw),
             trb_types::SET_TR_DEQUEUE_POINTER_COMMAND => set_tr_dequeue_pointer(raw),
             trb_types::RESET_DEVICE_COMMAND => reset_device(raw),
-            trb_types::FORCE_EVENT_COMMAND..=trb_types::GET_PORT_BANDWIDTH_COMMAND =>
-                refuse(refusal::OPTIONAL, trb_type, raw),
+            trb_types::FORCE_EVENT_COMMAND..=trb_types::GET_PORT_BANDWIDTH_COMMAND => refuse(
+                refusal::OPTIONAL,
+                trb_type,
+                raw,
+            ),
             trb_types::FORCE_HEADER_COMMAND => answer(CommandTrbVariant::ForceHeader),
             trb_types::NO_OP_COMMAND => answer(CommandTrbVariant::NoOp),
             _ => refuse(refusal::TYPE, trb_type, raw),

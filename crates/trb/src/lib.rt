@@ -1,9 +1,9 @@
 // Transfer Request Blocks (xHCI 4.11, 6.4): sixteen bytes taken apart and put together, a module for each kind.
+pub mod command;
+pub mod data;
 pub mod event;
 pub mod link;
-pub mod command;
 pub mod transfer;
-pub mod data;
 
 ghost use mathlib.Core.Path.{_≡_};
 ghost use mathlib.Core.Bool.{Bool};
