@@ -4,7 +4,8 @@ use crate::TrbParseError;
 use codes::trb_types;
 use guest::refusal;
 ghost use mathlib.Core.Path.{_≡_};
-ghost use Rattle.trb.specs.Commands.{unrecognized, answered, disableSlotAs, addressDeviceAs, configureEndpointAs, evaluateContextAs, resetEndpointAs, stopEndpointAs, setTrDequeuePointerAs, resetDeviceAs, commandOf};
+ghost use Rattle.guest.specs.Fields.{field};
+ghost use Rattle.trb.specs.Commands.{unrecognized, answered, aligned, disableSlotAs, addressDeviceAs, configureEndpointAs, evaluateContextAs, resetEndpointAs, stopEndpointAs, setTrDequeuePointerAs, resetDeviceAs, commandOf};
 
 pub struct DisableSlotCommandTrbData {
     pub slot_id: u8,
@@ -89,6 +90,16 @@ fn refuse(number: u8, trb_type: u8, raw: RawTrbBuffer) -> ParsedCommand
     }
 }
 
+// The command, or refusal 11 where the pointer's low four bits are not 0.
+fn aligned(raw: RawTrbBuffer, variant: CommandTrbVariant) -> ParsedCommand
+    ensures { λ r. ⌜ r ≡ aligned raw variant ⌝ }
+{
+    if crate::low_bits(raw) != 0 {
+        return refuse(refusal::RESERVED, 0, raw);
+    }
+    answer(variant)
+}
+
 fn disable_slot(raw: RawTrbBuffer) -> ParsedCommand
     ensures { λ r. ⌜ r ≡ disableSlotAs raw ⌝ }
 {
@@ -100,39 +111,39 @@ fn disable_slot(raw: RawTrbBuffer) -> ParsedCommand
 fn address_device(raw: RawTrbBuffer) -> ParsedCommand
     ensures { λ r. ⌜ r ≡ addressDeviceAs raw ⌝ }
 {
-    if crate::low_bits(raw) != 0 {
-        return refuse(refusal::RESERVED, 0, raw);
-    }
-    answer(CommandTrbVariant::AddressDevice(AddressDeviceCommandTrbData {
-        input_context_pointer: crate::aligned_pointer(raw),
-        block_set_address_request: crate::flag(raw, 13, 1),
-        slot_id: crate::slot_id(raw),
-    }))
+    aligned(
+        raw,
+        CommandTrbVariant::AddressDevice(AddressDeviceCommandTrbData {
+            input_context_pointer: crate::aligned_pointer(raw),
+            block_set_address_request: crate::flag(raw, 13, 1),
+            slot_id: crate::slot_id(raw),
+        }),
+    )
 }
 
 fn configure_endpoint(raw: RawTrbBuffer) -> ParsedCommand
     ensures { λ r. ⌜ r ≡ configureEndpointAs raw ⌝ }
 {
-    if crate::low_bits(raw) != 0 {
-        return refuse(refusal::RESERVED, 0, raw);
-    }
-    answer(CommandTrbVariant::ConfigureEndpoint(ConfigureEndpointCommandTrbData {
-        input_context_pointer: crate::aligned_pointer(raw),
-        deconfigure: crate::flag(raw, 13, 1),
-        slot_id: crate::slot_id(raw),
-    }))
+    aligned(
+        raw,
+        CommandTrbVariant::ConfigureEndpoint(ConfigureEndpointCommandTrbData {
+            input_context_pointer: crate::aligned_pointer(raw),
+            deconfigure: crate::flag(raw, 13, 1),
+            slot_id: crate::slot_id(raw),
+        }),
+    )
 }
 
 fn evaluate_context(raw: RawTrbBuffer) -> ParsedCommand
     ensures { λ r. ⌜ r ≡ evaluateContextAs raw ⌝ }
 {
-    if crate::low_bits(raw) != 0 {
-        return refuse(refusal::RESERVED, 0, raw);
-    }
-    answer(CommandTrbVariant::EvaluateContext(EvaluateContextCommandTrbData {
-        input_context_pointer: crate::aligned_pointer(raw),
-        slot_id: crate::slot_id(raw),
-    }))
+    aligned(
+        raw,
+        CommandTrbVariant::EvaluateContext(EvaluateContextCommandTrbData {
+            input_context_pointer: crate::aligned_pointer(raw),
+            slot_id: crate::slot_id(raw),
+        }),
+    )
 }
 
 fn reset_endpoint(raw: RawTrbBuffer) -> ParsedCommand
@@ -157,10 +168,8 @@ fn stop_endpoint(raw: RawTrbBuffer) -> ParsedCommand
 fn stream_context_type(raw: RawTrbBuffer) -> u8
     ensures { λ r. ⌜ r ≡ field raw 0 1 3 ⌝ }
 {
-    raw[0] / 2 % 8
+    raw[0] % 16 / 2
 }
-
-ghost use Rattle.guest.specs.Fields.{field};
 
 fn set_tr_dequeue_pointer(raw: RawTrbBuffer) -> ParsedCommand
     ensures { λ r. ⌜ r ≡ setTrDequeuePointerAs raw ⌝ }

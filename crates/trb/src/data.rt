@@ -44,7 +44,8 @@ pub fn data_refusal(mem: &[u8], info: TrbDmaInfo) -> u8
     if info.immediate_data {
         return refusal::IMMEDIATE;
     }
-    if guest::inside(mem, info.data_pointer, info.transfer_length as u64) {
+    let length = info.transfer_length as u64;
+    if guest::inside(mem, info.data_pointer, length) {
         return 0;
     }
     refusal::OUTSIDE

@@ -1,5 +1,4 @@
 -- The row of type 11, by what the leaves ensure. Assumes nothing.
-use Rattle.guest.proofs.Tests.{same, differs}
 use borrow.Author.Needs.{needs}
 use Rattle.trb.proofs.command.address_device.Statement.{statement}
 use Rattle.trb.proofs.command.address_device.Tie as tie
@@ -10,9 +9,6 @@ address-device-spec =
     (tie.spec
     (λ c κs. search needs)
     (λ c κs. search needs)
-    (λ c. rw (c .refuse .ensures, differs (c .before .before .low-bits .ensures) (c .before .if1 .taken)))
     (λ c κs. search needs)
     (λ c κs. search needs)
-    (λ c κs. search needs)
-    (λ c κs. search needs)
-    (λ c. let a = c .before .before .before in rw (c .answer .ensures, same (a .before .before .low-bits .ensures) (a .before .if1 .left), c .before .slot-id .ensures, c .before .before .flag .ensures, a .aligned-pointer .ensures)))
+    (λ c. rw (c .aligned .ensures, c .before .slot-id .ensures, c .before .before .flag .ensures, c .before .before .before .aligned-pointer .ensures)))

@@ -1,5 +1,4 @@
 -- The row of type 13, by what the leaves ensure. Assumes nothing.
-use Rattle.guest.proofs.Tests.{same, differs}
 use borrow.Author.Needs.{needs}
 use Rattle.trb.proofs.command.evaluate_context.Statement.{statement}
 use Rattle.trb.proofs.command.evaluate_context.Tie as tie
@@ -10,8 +9,5 @@ evaluate-context-spec =
     (tie.spec
     (λ c κs. search needs)
     (λ c κs. search needs)
-    (λ c. rw (c .refuse .ensures, differs (c .before .before .low-bits .ensures) (c .before .if1 .taken)))
     (λ c κs. search needs)
-    (λ c κs. search needs)
-    (λ c κs. search needs)
-    (λ c. let a = c .before .before in rw (c .answer .ensures, same (a .before .before .low-bits .ensures) (a .before .if1 .left), c .before .slot-id .ensures, a .aligned-pointer .ensures)))
+    (λ c. rw (c .aligned .ensures, c .before .slot-id .ensures, c .before .before .aligned-pointer .ensures)))
