@@ -1,0 +1,122 @@
+// Runs the marked cases of document 01 and writes what comes out. The file stdout has what the document says.
+use codes::CompletionCode;
+use libc::STDOUT_FILENO;
+use trb::RawTrbBuffer;
+use trb::TrbParseError;
+use trb::command::CommandTrbVariant;
+use trb::event::CommandCompletionEventTrbData;
+use trb::event::EventTrb;
+use trb::event::PortStatusChangeEventTrbData;
+use trb::event::TransferEventTrbData;
+use trb::transfer::TransferTrbVariant;
+
+fn text(t: &[u8]) {
+    io::write_all(STDOUT_FILENO, t);
+}
+
+fn number(label: &[u8], n: u64) {
+    text(label);
+    io::print_decimal(STDOUT_FILENO, n);
+}
+
+fn hex(label: &[u8], n: u64) {
+    text(label);
+    io::print_hex(STDOUT_FILENO, n, 1);
+}
+
+fn wide(b: u8) -> u64 {
+    b as u64
+}
+
+// An event's bytes, two hexadecimal digits each.
+fn event(name: &[u8], event: EventTrb, cycle_bit: bool) {
+    let written = event.to_bytes(cycle_bit);
+    let trb = written.trb;
+    text(name);
+    number(b" refusal ", wide(written.refusal));
+    text(b":");
+    for i in 0..16 {
+        text(b" ");
+        io::print_hex(STDOUT_FILENO, wide(trb[i]), 2);
+    }
+    text(b"\n");
+}
+
+fn refusal(name: &[u8], e: TrbParseError) {
+    text(name);
+    number(b" refusal ", wide(e.number));
+    number(b" with type ", wide(e.trb_type));
+    text(b"\n");
+}
+
+fn command(name: &[u8], raw: RawTrbBuffer) {
+    let parsed = CommandTrbVariant::parse(raw);
+    let variant = parsed.variant;
+    match variant {
+        CommandTrbVariant::Unrecognized(e) => refusal(name, e),
+        CommandTrbVariant::SetTrDequeuePointer(d) => {
+            text(name);
+            number(b" cycle ", d.dequeue_cycle_state as u64);
+            number(b", type ", wide(d.stream_context_type));
+            hex(b", pointer 0x", d.dequeue_pointer);
+            hex(b", stream 0x", d.stream_id as u64);
+            text(b"\n");
+        }
+        _ => text(b"another command\n"),
+    }
+}
+
+fn transfer(name: &[u8], raw: RawTrbBuffer) {
+    let parsed = TransferTrbVariant::parse(raw);
+    let variant = parsed.variant;
+    if let TransferTrbVariant::Unrecognized(e) = variant {
+        refusal(name, e);
+    } else {
+        text(b"a transfer TRB\n");
+    }
+}
+
+// A TRB of which only its first byte and its type are not 0.
+fn trb_of(first: u8, trb_type: u8) -> RawTrbBuffer {
+    let mut raw = [0u8; 16];
+    raw[0] = first;
+    raw[13] = (trb_type % 64) * 4;
+    raw
+}
+
+fn events() {
+    let completion = CommandCompletionEventTrbData {
+        command_trb_pointer: 0x1000,
+        command_completion_parameter: 0,
+        completion_code: CompletionCode::Success,
+        slot_id: 1,
+    };
+    event(b"E1", EventTrb::CommandCompletion(completion), true);
+    let change = PortStatusChangeEventTrbData { port_id: 3 };
+    event(b"E2", EventTrb::PortStatusChange(change), false);
+    let done = TransferEventTrbData {
+        trb_pointer: 0x2010,
+        trb_transfer_length: 5,
+        completion_code: CompletionCode::ShortPacket,
+        event_data: true,
+        endpoint_id: 3,
+        slot_id: 2,
+    };
+    event(b"E3", EventTrb::Transfer(done), true);
+}
+
+fn parsers() {
+    command(b"P1", trb_of(0x08, 11));
+    let mut dequeue = trb_of(0x47, 16);
+    dequeue[10] = 0x34;
+    dequeue[11] = 0x12;
+    dequeue[12] = 0x01;
+    command(b"P2", dequeue);
+    transfer(b"P4", trb_of(0, 6));
+    command(b"P4", trb_of(0, 18));
+}
+
+fn main() {
+    events();
+    parsers();
+}
