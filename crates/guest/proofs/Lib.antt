@@ -2,3 +2,4 @@ pub mod Tests
 pub mod Judge
 pub mod Memory
 pub mod Fields
+pub mod Answers

@@ -1,0 +1,35 @@
+-- What the answers of this crate's functions say. Assumes nothing.
+use mathlib.Core.Path.{_≡_, refl, sym, ap, _∙_}
+use mathlib.Core.Bool.{Bool, true, false}
+use mathlib.Core.List.{List, [], _∷_}
+use Prim.Native.Nat.{ℕ}
+use native.Mathlib.Omega.{arith}
+use lib.ListN.{replicate}
+use Rattle.guest.specs.Judge.{judge}
+use Rattle.guest.specs.Memory.{Memory, inside, trbAt}
+use Rattle.guest.specs.Answers.{touches, trbRead}
+use Rattle.guest.specs.declared.TrbAnswer.{TrbAnswer}
+
+-- sixteen bytes that were read
+pub record Read (m : Memory) (a : ℕ) (r : TrbAnswer) : Type 0 where
+  pub within : inside m a 16 ≡ true
+  pub bytes : r .trb ≡ trbAt m a
+
+abbrev picked : Memory → ℕ → Bool → TrbAnswer
+picked m a b = judge ((1, b) ∷ []) (λ n. record { refusal = n; trb = replicate 16 0 }) (record { refusal = 0; trb = trbAt m a })
+
+pub read-yes : (m : Memory) (a : ℕ) (r : TrbAnswer) → r ≡ trbRead m a → r .refusal ≡ 0 → Read m a r
+unfolding judge
+read-yes m a r e h = go (inside m a 16) refl e
+  where
+    go : (b : Bool) → inside m a 16 ≡ b → r ≡ picked m a b → Read m a r
+    go true i p = record { within = i; bytes = ap (λ (x : TrbAnswer). x .trb) p }
+    go false i p = absurd (omega (arith, ap (λ (x : TrbAnswer). x .refusal) p))
+
+pub read-no : (m : Memory) (a : ℕ) (r : TrbAnswer) → r ≡ trbRead m a → (r .refusal ≡ 0 → ⊥) → inside m a 16 ≡ false
+unfolding judge
+read-no m a r e h = go (inside m a 16) refl e
+  where
+    go : (b : Bool) → inside m a 16 ≡ b → r ≡ picked m a b → inside m a 16 ≡ false
+    go true i p = absurd (h (ap (λ (x : TrbAnswer). x .refusal) p))
+    go false i p = i
