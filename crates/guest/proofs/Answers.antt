@@ -33,3 +33,8 @@ read-no m a r e h = go (inside m a 16) refl e
     go : (b : Bool) → inside m a 16 ≡ b → r ≡ picked m a b → inside m a 16 ≡ false
     go true i p = absurd (h (ap (λ (x : TrbAnswer). x .refusal) p))
     go false i p = i
+
+-- and what is inside is read
+pub read-inside : (m : Memory) (a : ℕ) (r : TrbAnswer) → r ≡ trbRead m a → inside m a 16 ≡ true → r .trb ≡ trbAt m a
+unfolding judge
+read-inside m a r e i = ap (λ (x : TrbAnswer). x .trb) (rw i at e)

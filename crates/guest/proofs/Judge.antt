@@ -58,3 +58,27 @@ unfolding judge
 judge-by P [] r a refused passed = passed tt
 judge-by P ((n, true) ∷ ts) r a refused passed = judge-by P ts r a refused (λ p. passed (refl, p))
 judge-by P ((n, false) ∷ ts) r a refused passed = refused n
+
+-- ---- an answer that shows its number: `number` is what a refusal was refused with, and 0 of the answer
+
+pub judge-refusal : {A : Type 0} (number : A → ℕ) (ts : Tests) (r : ℕ → A) (a : A) → ((n : ℕ) → number (r n) ≡ n) → number a ≡ 0
+    → number (judge ts r a) ≡ refusalOf ts
+unfolding judge
+judge-refusal number [] r a f z = z
+judge-refusal number ((n, true) ∷ ts) r a f z = judge-refusal number ts r a f z
+judge-refusal number ((n, false) ∷ ts) r a f z = f n
+
+module _ {A : Type 0} (number : A → ℕ) (ts : Tests) (k : Numbered ts) (r : ℕ → A) (a : A) (f : (n : ℕ) → number (r n) ≡ n) (z : number a ≡ 0) (x : A) (e : x ≡ judge ts r a) where
+  number-is : number x ≡ refusalOf ts
+  number-is = ap number e ∙ judge-refusal number ts r a f z
+
+  -- the number 0 says that every test passed, and the answer was given
+  pub answer-passes : number x ≡ 0 → Passes ts
+  answer-passes h = none-passes ts k (sym number-is ∙ h)
+
+  pub answer-given : number x ≡ 0 → x ≡ a
+  answer-given h = e ∙ judge-passes ts r a (answer-passes h)
+
+  -- any other says how every judgement by these tests ends
+  pub answer-stops : (number x ≡ 0 → ⊥) → {B : Type 0} (s : ℕ → B) (b : B) → judge ts s b ≡ s (number x)
+  answer-stops h s b = judge-number ts s b k ∙ rw (ne-eqb (refusalOf ts) 0 (λ q. h (number-is ∙ q))) (ap s (sym number-is))

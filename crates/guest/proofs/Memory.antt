@@ -1,6 +1,7 @@
 -- Laws of guest memory, each once, over the width. Assumes nothing.
 use mathlib.Core.Path.{_≡_, refl, sym, ap, ap₂, _∙_}
-use mathlib.Core.List.{List, [], _∷_, _++_, append-nil}
+use mathlib.Core.List.{List, [], _∷_, _++_, append-nil, append-assoc}
+use mathlib.Core.Logic.{_⊎_, inl, inr}
 use mathlib.Core.Bool.{Bool, true, false, _&&_}
 use Prim.Native.Nat.{ℕ, zero, suc, _+_, _-_, _*_, _^_, _≤_, _<_}
 use native.Mathlib.Nat.{add-sub-cancel-left, suc-add, add-assoc, add-zero, zero-add, pow-zero, pow-succ', mul-assoc, mul-add, one-mul}
@@ -8,8 +9,8 @@ use native.Mathlib.Numerals.{add-one, one-add}
 use native.Mathlib.Omega.{arith}
 use borrow.Author.Tests.{leb-true, le-leb, lt-leb}
 use lib.Dec.{leb}
-use lib.ListN.{length, getD, take, drop, length-drop}
-use lib.Seq.{length-take-le, drop-drop, take-length, drop-length}
+use lib.ListN.{length, getD, take, drop, set, length-drop}
+use lib.Seq.{length-take-le, drop-drop, take-length, drop-length, getD-take, getD-drop, sets, sets-eq, length-sets, drop-at, take-at, getD-set-other}
 use Rattle.guest.specs.Memory.{Memory, byte, inside, le, part, write}
 use Rattle.guest.proofs.Tests.{both}
 
@@ -30,6 +31,18 @@ inside-no m a k h = rw (lt-leb (a + k) (length m) h) (never (leb (a + k) (2 ^ 64
     never : (b : Bool) → b && false ≡ false
     never true = refl
     never false = refl
+
+-- so far on, and so many bytes there
+pub inside-add : (m : Memory) (a k l : ℕ) → inside m (a + k) l ≡ inside m a (k + l)
+unfolding inside
+inside-add m a k l = rw (add-assoc a k l)
+
+-- and so are fewer bytes
+pub inside-less : (m : Memory) (a k l : ℕ) → inside m a k ≡ true → l ≤ k → inside m a l ≡ true
+unfolding inside
+inside-less m a k l h n =
+    let p = both (leb (a + k) (2 ^ 64)) _ h in
+    rw (le-leb (a + l) (2 ^ 64) (omega (arith, leb-true (a + k) (2 ^ 64) (p .0))), le-leb (a + l) (length m) (omega (arith, leb-true (a + k) (length m) (p .1))))
 
 -- ---- numbers
 
@@ -76,3 +89,39 @@ module _ (k a : ℕ) (m : Memory) (fits : a + k ≤ length m) where
   pub part-length : length (part m a k) ≡ k
   unfolding part
   part-length = length-take-le k (drop a m) (rw length-drop (omega arith))
+
+-- ---- what is read of a part, and after a write
+
+pub part-byte : (m : Memory) (a n i : ℕ) → i < n → byte (part m a n) i ≡ byte m (a + i)
+unfolding part
+part-byte m a n i h = rw (getD-take n (drop a m) i 0, getD-drop)
+
+pub le-part : (k : ℕ) (m : Memory) (a n i : ℕ) → i + k ≤ n → le (part m a n) i k ≡ le m (a + i) k
+unfolding le
+le-part zero m a n i h = refl
+le-part (suc k) m a n i h =
+    ap₂ (λ (x y : ℕ). x + 256 * y) (part-byte m a n i (omega arith))
+    (le-part k m a n (i + 1) (omega arith) ∙ ap (λ (x : ℕ). le m x k) (sym (add-assoc a i 1)))
+
+-- a write where it fits keeps the memory's length and every other byte, and is read back
+module _ (m : Memory) (a : ℕ) (v : List ℕ) (fits : a + length v ≤ length m) where
+  as-sets : write m a v ≡ sets m a v
+  unfolding write
+  as-sets = sym (sets-eq v m a fits ∙ append-assoc (take a m) v (drop (a + length v) m))
+
+  pub write-length : length (write m a v) ≡ length m
+  write-length = ap length as-sets ∙ length-sets m a v
+
+  pub write-there : part (write m a v) a (length v) ≡ v
+  unfolding write part
+  write-there =
+      ap (take (length v)) (drop-at (take a m) (v ++ drop (a + length v) m) a (length-take-le a m (omega arith)))
+      ∙ take-at v (drop (a + length v) m) (length v) refl
+
+  pub write-elsewhere : (i : ℕ) → (i < a) ⊎ (a + length v ≤ i) → byte (write m a v) i ≡ byte m i
+  write-elsewhere i h = ap (λ (l : Memory). byte l i) as-sets ∙ other v m a i h
+    where
+      other : (v : List ℕ) (m : Memory) (a i : ℕ) → (i < a) ⊎ (a + length v ≤ i) → byte (sets m a v) i ≡ byte m i
+      other [] m a i h = refl
+      other (b ∷ v) m a i (inl h) = other v (set m a b) (suc a) i (inl (omega arith)) ∙ getD-set-other m a i b 0 (omega arith)
+      other (b ∷ v) m a i (inr h) = other v (set m a b) (suc a) i (inr (omega arith)) ∙ getD-set-other m a i b 0 (omega arith)
