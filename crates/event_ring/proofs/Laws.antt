@@ -17,7 +17,7 @@ use Rattle.guest.specs.declared.Dwords.{Dwords}
 use Rattle.guest.proofs.Tests.{both}
 use Rattle.guest.proofs.Judge.{Passes, Numbered, judge-append, judge-passes, answer-passes, answer-given, answer-stops}
 use Rattle.guest.proofs.Memory.{le-add, le-part}
-use Rattle.event_ring.specs.Ring.{entryAt, countOk, okState, last, entryTests, nextTests, nextState, refusedAt, movedTo, next, stepTests, addStep, added, addedMemory}
+use Rattle.event_ring.specs.Ring.{entryAt, countOk, okState, last, entryTests, nextTests, nextState, refusedAt, movedTo, next, stepTests, addTests, addStep, added, addedMemory}
 use Rattle.guest.specs.declared.TrbAnswer.{TrbAnswer}
 use Rattle.trb.specs.Events.{eventTests, eventBytes, bytesAnswered}
 use Rattle.trb.specs.declared.event.EventTrb.{EventTrb}
@@ -120,17 +120,20 @@ numbered-append : (xs ys : Tests) → Numbered xs → Numbered ys → Numbered (
 numbered-append [] ys p q = q
 numbered-append ((n, b) ∷ xs) ys p q = (p .0, numbered-append xs ys (p .1) q)
 
-module _ (m : Memory) (s : EventRing) (report : ℕ) (x : Moved) (e : x ≡ addStep m s report) where
-  step-numbered : Numbered (stepTests m s report)
-  step-numbered = (lit< tt, (lit< tt, (lit< tt, numbered-append (nextTests m s) _ (next-numbered m s) (lit< tt, tt))))
+step-numbered : (m : Memory) (s : EventRing) (report : ℕ) → Numbered (stepTests m s report)
+step-numbered m s report = (lit< tt, (lit< tt, (lit< tt, numbered-append (nextTests m s) _ (next-numbered m s) (lit< tt, tt))))
 
+pub add-numbered : (m : Memory) (s : EventRing) (ev : EventTrb) (report : ℕ) → Numbered (addTests m s ev report)
+add-numbered m s ev report = (lit< tt, step-numbered m s report)
+
+module _ (m : Memory) (s : EventRing) (report : ℕ) (x : Moved) (e : x ≡ addStep m s report) where
   pub step-passes : x .refusal ≡ 0 → Passes (stepTests m s report)
   unfolding addStep
-  step-passes = answer-passes (λ (r : Moved). r .refusal) (stepTests m s report) step-numbered (refusedAt s) (movedTo (nextState m s)) (λ n. refl) refl x e
+  step-passes = answer-passes (λ (r : Moved). r .refusal) (stepTests m s report) (step-numbered m s report) (refusedAt s) (movedTo (nextState m s)) (λ n. refl) refl x e
 
   pub step-stops : (x .refusal ≡ 0 → ⊥) → {B : Type 0} (r : ℕ → B) (b : B) → judge (stepTests m s report) r b ≡ r (x .refusal)
   unfolding addStep
-  step-stops = answer-stops (λ (r : Moved). r .refusal) (stepTests m s report) step-numbered (refusedAt s) (movedTo (nextState m s)) (λ n. refl) refl x e
+  step-stops = answer-stops (λ (r : Moved). r .refusal) (stepTests m s report) (step-numbered m s report) (refusedAt s) (movedTo (nextState m s)) (λ n. refl) refl x e
 
 -- ---- an add, by what the event's bytes, the ring's step and the write answered
 

@@ -35,3 +35,12 @@ module _ (m : Memory) (table entries : ℕ) where
       (cond (ltb (k .segment + 1) entries)
       (record { segment = k .segment + 1; slot = 0; cycle = k .cycle })
       (record { segment = 0; slot = 0; cycle = not (k .cycle) }))
+
+-- what the consumer does at its dequeue pointer: it takes the event and goes on, or finds none
+pub data Consumed : Type 0 where
+  event : List ℕ → Consumer → Consumed
+  none : Consumed
+
+abbrev pub consume : Memory → ℕ → ℕ → Consumer → Consumed
+consume m table entries k =
+    cond (event? m table entries k) (event (trbAt m (dequeue m table entries k)) (onward m table entries k)) none

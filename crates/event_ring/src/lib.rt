@@ -274,13 +274,13 @@ impl EventRing {
         if written.refusal != 0 {
             return self.refused(written.refusal);
         }
-        let moved = self.add_step(mem, report);
-        if moved.refusal != 0 {
-            return moved;
+        let step = self.add_step(mem, report);
+        if step.refusal != 0 {
+            return step;
         }
         let trb = written.trb;
         guest::write_trb(mem, self.place, trb);
-        moved
+        step
     }
 }
 

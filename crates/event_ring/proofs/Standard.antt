@@ -1,0 +1,117 @@
+-- The port's reader follows the standard's consumer (xHCI 4.9.4) wherever it refuses nothing. Assumes nothing.
+use Prim.{tt}
+use Prim.Native.Nat.{ℕ, _+_, _*_, _≤_, _<_}
+use mathlib.Core.Path.{_≡_, refl, sym, ap, ap₂, _∙_}
+use mathlib.Core.Bool.{Bool, true, false, cond, not, Bool·beq}
+use mathlib.Core.List.{List, []}
+use native.Mathlib.Decide.{decLe}
+use native.Mathlib.Omega.{arith}
+use borrow.Author.Tests.{eq-eqb, ne-eqb, lt-ltb, le-ltb}
+use lib.Dec.{eqb, ltb, lit<}
+use lib.ListN.{replicate}
+use Rattle.guest.specs.Judge.{judge}
+use Rattle.guest.specs.Memory.{Memory, trbAt}
+use Rattle.guest.proofs.Judge.{Passes, Numbered, answer-passes, answer-given}
+use Rattle.trb.specs.Trb.{cycleOf}
+use Rattle.event_ring.specs.Ring.{entryOf, last, nextIndex, nextEntry, entered, along, nextState, nextTests, freshOf, takeTests, takeRefused, takenAt, nothingAt, take, numberOf}
+use Rattle.event_ring.specs.Consumer.{Consumer, dequeue, event?, onward, Consumed, event, none, consume}
+use Rattle.event_ring.specs.declared.EventRing.{EventRing}
+use Rattle.event_ring.specs.declared.EventReader.{EventReader}
+use Rattle.event_ring.specs.declared.Take.{Take}
+use Rattle.event_ring.specs.declared.Taken.{Taken}
+use Rattle.event_ring.proofs.Laws.{Limits, limits, next-numbered}
+
+-- the reader's state stands where the consumer does: the same slot, as many slots left as the segment has from there on, the same cycle
+pub record StandsAt (m : Memory) (s : EventRing) (k : Consumer) : Type 0 where
+  pub segment : s .index ≡ k .segment
+  pub place : s .place ≡ dequeue m (s .table) (s .entries) k
+  pub left : k .slot + s .remaining ≡ entryOf m (s .table) (k .segment) .size
+  pub cycle : s .cycle ≡ k .cycle
+
+-- a take agrees with what the consumer does
+abbrev pub Agrees : Memory → EventReader → Taken → Consumed → Type 0
+Agrees m r t (event trb k) = (t .answer ≡ Take.Event) × (t .trb ≡ trb) × StandsAt m (t .reader .state) k
+Agrees m r t none = t ≡ nothingAt r
+
+-- ---- a step
+
+module _ (m : Memory) (s : EventRing) (k : Consumer) (ok : Limits s) (at : StandsAt m s k) where
+  -- in the segment
+  inside-segment : 2 ≤ s .remaining → StandsAt m (nextState m s) (onward m (s .table) (s .entries) k)
+  unfolding nextState onward
+  inside-segment h =
+      rw (ne-eqb (s .remaining) 1 (λ e. omega arith), lt-ltb (k .slot + 1) (entryOf m (s .table) (k .segment) .size) (omega (arith, at .left)))
+      (record { segment = at .segment; place = omega (arith, at .place); left = omega (arith, at .left); cycle = at .cycle })
+
+  -- to the next segment, or to the first
+  next-segment : s .remaining ≡ 1 → k .segment + 1 < s .entries → StandsAt m (nextState m s) (onward m (s .table) (s .entries) k)
+  unfolding nextState onward nextIndex
+  next-segment h l =
+      rw (
+        eq-eqb (s .remaining) 1 h,
+        le-ltb (k .slot + 1) (entryOf m (s .table) (k .segment) .size) (omega (arith, at .left)),
+        lt-ltb (k .segment + 1) (s .entries) l,
+        at .segment,
+        ne-eqb (k .segment + 1) (s .entries) (λ e. omega arith),
+        ne-eqb (k .segment + 1) 0 (λ e. omega arith),
+      )
+      (record { segment = refl; place = omega arith; left = omega arith; cycle = at .cycle })
+
+  first-segment : s .remaining ≡ 1 → s .entries ≤ k .segment + 1 → StandsAt m (nextState m s) (onward m (s .table) (s .entries) k)
+  unfolding nextState onward nextIndex
+  first-segment h l =
+      let wraps : k .segment + 1 ≡ s .entries = omega (arith, ok .within, at .segment) in
+      rw (
+        eq-eqb (s .remaining) 1 h,
+        le-ltb (k .slot + 1) (entryOf m (s .table) (k .segment) .size) (omega (arith, at .left)),
+        le-ltb (k .segment + 1) (s .entries) l,
+        at .segment,
+        eq-eqb (k .segment + 1) (s .entries) wraps,
+      )
+      (record { segment = refl; place = omega arith; left = omega arith; cycle = ap not (at .cycle) })
+
+  pub steps : StandsAt m (nextState m s) (onward m (s .table) (s .entries) k)
+  steps = go (decLe 2 (s .remaining)) (decLe (s .entries) (k .segment + 1))
+    where
+      go : Dec (2 ≤ s .remaining) → Dec (s .entries ≤ k .segment + 1) → StandsAt m (nextState m s) (onward m (s .table) (s .entries) k)
+      go (yes h) d = inside-segment h
+      go (no h) (yes l) = first-segment (omega (arith, ok .left, h)) l
+      go (no h) (no l) = next-segment (omega (arith, ok .left, h)) (omega (arith, l))
+
+-- ---- a take
+
+module _ (m : Memory) (r : EventReader) where
+  -- what a take gives where it refuses nothing
+  abbrev pub given : Bool → Taken
+  given fresh = cond fresh (takenAt (trbAt m (r .state .place)) (nextState m (r .state))) (nothingAt r)
+
+  pub given-number : (fresh : Bool) → numberOf (given fresh .answer) ≡ 0
+  given-number true = refl
+  given-number false = refl
+
+  pub take-numbered : Numbered (takeTests m (r .state))
+  take-numbered = (lit< tt, (lit< tt, go (freshOf m (r .state))))
+    where
+      go : (fresh : Bool) → Numbered (cond fresh (nextTests m (r .state)) [])
+      go true = next-numbered m (r .state)
+      go false = tt
+
+  pub take-passes : numberOf (take m r .answer) ≡ 0 → Passes (takeTests m (r .state))
+  unfolding take
+  take-passes = answer-passes (λ (t : Taken). numberOf (t .answer)) (takeTests m (r .state)) take-numbered (takeRefused r) (given (freshOf m (r .state))) (λ n. refl) (given-number (freshOf m (r .state))) (take m r) refl
+
+  pub take-gives : numberOf (take m r .answer) ≡ 0 → take m r ≡ given (freshOf m (r .state))
+  unfolding take
+  take-gives = answer-given (λ (t : Taken). numberOf (t .answer)) (takeTests m (r .state)) take-numbered (takeRefused r) (given (freshOf m (r .state))) (λ n. refl) (given-number (freshOf m (r .state))) (take m r) refl
+
+-- the port's reader, where it refuses nothing, does what the consumer does, and stands where the consumer then stands
+pub take-follows : (m : Memory) (r : EventReader) (k : Consumer) → StandsAt m (r .state) k → numberOf (take m r .answer) ≡ 0
+    → Agrees m r (take m r) (consume m (r .state .table) (r .state .entries) k)
+take-follows m r k at z =
+    let s = r .state in
+    let same : freshOf m s ≡ event? m (s .table) (s .entries) k = ap₂ (λ (a : ℕ) (c : Bool). Bool·beq (cycleOf (trbAt m a)) c) (at .place) (at .cycle) in
+    rw (take-gives m r z, same) (go (event? m (s .table) (s .entries) k))
+  where
+    go : (fresh : Bool) → Agrees m r (given m r fresh) (cond fresh (event (trbAt m (dequeue m (r .state .table) (r .state .entries) k)) (onward m (r .state .table) (r .state .entries) k)) none)
+    go true = (refl, ap (trbAt m) (at .place), steps m (r .state) k (limits (r .state) (take-passes m r z .0)) at)
+    go false = refl
