@@ -102,11 +102,14 @@ valid (EventTrb.PortStatusChange t) = true
 abbrev pub eventTests : EventTrb → Tests
 eventTests e = (event, valid e) ∷ []
 
+abbrev pub refused : ℕ → TrbAnswer
+refused n = record { refusal = n; trb = replicate 16 0 }
+
+abbrev pub accepted : List ℕ → TrbAnswer
+accepted trb = record { refusal = 0; trb = trb }
+
 unfoldable pub bytesAnswered : EventTrb → Bool → TrbAnswer
-bytesAnswered e c =
-    judge (eventTests e)
-    (λ n. record { refusal = n; trb = replicate 16 0 })
-    (record { refusal = 0; trb = eventBytes e c })
+bytesAnswered e c = judge (eventTests e) refused (accepted (eventBytes e c))
 
 -- ---- reading
 
