@@ -4,7 +4,7 @@ use mathlib.Core.Bool.{Bool, true, false, cond, _&&_, false≢true}
 use mathlib.Core.List.{List, [], _∷_}
 use mathlib.Core.Logic.{_↔_}
 use Prim.{Unit, tt}
-use Prim.Native.Nat.{ℕ, zero, suc, _+_, _*_, _^_, _<_}
+use Prim.Native.Nat.{ℕ, _+_, _*_, _/_, _^_, _<_}
 use native.Mathlib.Omega.{arith}
 use borrow.Author.Tests.{eqb-true, eq-eqb, lt-ltb, ltb-true}
 use lib.Dec.{eqb, ltb, lit<}
@@ -22,7 +22,7 @@ use Rattle.codes.specs.Codes.{numberOf, codeOf}
 use Rattle.codes.specs.Types as types
 use Rattle.codes.specs.declared.CompletionCode.{CompletionCode}
 use Rattle.codes.specs.declared.Coded.{Coded}
-use Rattle.codes.proofs.Codes.{code-of-number, number-of-code, number-lt}
+use Rattle.codes.proofs.Codes.{code-of-number, number-lt}
 use Rattle.trb.specs.Trb.{typeOf, cycleOf, pointerOf, flagOf, bit}
 use Rattle.trb.specs.Events.{pack, inCode, ofCode, inTransfer, ofTransfer, transferDwords, inCommandCompletion, ofCommandCompletion, commandCompletionDwords, inPortStatusChange, ofPortStatusChange, portStatusChangeDwords, eventDwords, eventBytes, valid, refused, accepted, bytesAnswered, clear, reservedInTransfer, reservedInCommandCompletion, reservedInPortStatusChange, codeIn, isListed, listedIn, readTests, answered, unrecognized, transferAs, commandCompletionAs, portStatusChangeAs, eventOf}
 use Rattle.trb.specs.declared.event.TransferEventTrbData.{TransferEventTrbData}
@@ -31,14 +31,12 @@ use Rattle.trb.specs.declared.event.PortStatusChangeEventTrbData.{PortSt
 use Rattle.trb.specs.declared.event.EventTrb.{EventTrb}
 use Rattle.trb.specs.declared.event.EventVariant.{EventVariant}
 use Rattle.trb.specs.declared.event.ParsedEvent.{ParsedEvent}
+use Rattle.trb.proofs.Raw.{flag-is}
 use Rattle.trb.proofs.Pack.{whole, Packed, packed}
+use Rattle.trb.proofs.Rows.{by-type}
+use Rattle.trb.proofs.Coded.{listed-number}
 
 -- ---- flags, codes, and fields that are 0
-
-bit-is : (n : ℕ) → n < 2 → bit (eqb n 1) ≡ n
-bit-is zero h = refl
-bit-is (suc zero) h = refl
-bit-is (suc (suc n)) h = absurd (omega arith)
 
 bit-back : (b : Bool) → eqb (bit b) 1 ≡ b
 bit-back true = refl
@@ -47,10 +45,6 @@ bit-back false = refl
 bit-lt : (b : Bool) → bit b < 2
 bit-lt true = omega arith
 bit-lt false = omega arith
-
-listed-is : (x : Coded) → isListed x ≡ true → x ≡ Coded.Listed (listedIn x)
-listed-is (Coded.Listed k) h = refl
-listed-is Coded.Unlisted h = let z : _≡_ {A = ℕ} 0 1 = cc in absurd (omega arith)
 
 abbrev Zeros : List ℕ → List (ℕ × ℕ × ℕ) → Type 0
 Zeros trb [] = Unit
@@ -81,11 +75,6 @@ Sound trb p = soundIn (p .variant)
 same-dwords : (d : Dwords) {a b c e : ℕ} → a ≡ d .d0 → b ≡ d .d1 → c ≡ d .d2 → e ≡ d .d3 → record { d0 = a; d1 = b; d2 = c; d3 = e } ≡ d
 same-dwords d p q r s = rw (p, q, r, s)
 
--- a row, or the rows after it
-by-row : (P : ParsedEvent → Type 0) (b : Bool) (x y : ParsedEvent) → (b ≡ true → P x) → (b ≡ false → P y) → P (cond b x y)
-by-row P true x y f g = f refl
-by-row P false x y f g = g refl
-
 module _ (trb : List ℕ) (z : Sized (dwordsOf trb)) where
   low-half : bits (pointerOf trb) 0 32 ≡ dword trb 0
   low-half = omega arith
@@ -93,13 +82,10 @@ module _ (trb : List ℕ) (z : Sized (dwordsOf trb)) where
   high-half : bits (pointerOf trb) 32 32 ≡ dword trb 1
   high-half = omega arith
 
-  flag-is : (k lo : ℕ) → bit (flagOf trb k lo) ≡ field trb k lo 1
-  flag-is k lo = bit-is (field trb k lo 1) (omega arith)
-
   code-is : isListed (codeIn trb) ≡ true → pack inCode (ofCode (field trb 2 0 24) (listedIn (codeIn trb))) ≡ dword trb 2
   code-is h =
       whole inCode (ofCode (field trb 2 0 24) (listedIn (codeIn trb))) (dword trb 2) (z .z2)
-      (rw (number-of-code (field trb 2 24 8) (listedIn (codeIn trb)) (listed-is (codeIn trb) h)))
+      (rw (listed-number trb h))
 
   sound-transfer : typeOf trb ≡ types.transferEvent → Sound trb (transferAs trb)
   unfolding valid eventDwords
@@ -111,7 +97,7 @@ module _ (trb : List ℕ) (z : Sized (dwordsOf trb)) where
         lt-ltb (field trb 2 0 24) (2 ^ 24) (omega arith),
         same-dwords (dwordsOf trb) low-half high-half (code-is (p .0))
             (whole inTransfer (bit (cycleOf trb) ∷ 0 ∷ bit (flagOf trb 3 2) ∷ 0 ∷ types.transferEvent ∷ field trb 3 16 8 ∷ field trb 3 24 8 ∷ []) (dword trb 3) (z .z3)
-            (rw (flag-is 3 0, flag-is 3 2, r .0, r .1 .0, t))),
+            (rw (flag-is (dword trb 3 / 2 ^ 0), flag-is (dword trb 3 / 2 ^ 2), r .0, r .1 .0, t))),
       ))
 
   sound-command-completion : typeOf trb ≡ types.commandCompletionEvent → Sound trb (commandCompletionAs trb)
@@ -125,7 +111,7 @@ module _ (trb : List ℕ) (z : Sized (dwordsOf trb)) where
         rw (eq-eqb _ 0 low, lt-ltb (field trb 2 0 24) (2 ^ 24) (omega arith)),
         same-dwords (dwordsOf trb) low-half high-half (code-is (p .0))
             (whole inCommandCompletion (bit (cycleOf trb) ∷ 0 ∷ types.commandCompletionEvent ∷ 0 ∷ field trb 3 24 8 ∷ []) (dword trb 3) (z .z3)
-            (rw (flag-is 3 0, r .1 .0, r .1 .1 .0, t))),
+            (rw (flag-is (dword trb 3 / 2 ^ 0), r .1 .0, r .1 .1 .0, t))),
       ))
 
   sound-port-status-change : typeOf trb ≡ types.portStatusChangeEvent → Sound trb (portStatusChangeAs trb)
@@ -141,15 +127,15 @@ module _ (trb : List ℕ) (z : Sized (dwordsOf trb)) where
             (whole inCode (0 ∷ field trb 0 24 8 ∷ []) (dword trb 0) (z .z0) (rw (r .0)))
             (omega (arith, r .1 .0))
             (whole inCode (0 ∷ 1 ∷ []) (dword trb 2) (z .z2) (rw (r .1 .1 .0, one)))
-            (whole inPortStatusChange (ofPortStatusChange (cycleOf trb)) (dword trb 3) (z .z3) (rw (flag-is 3 0, r .1 .1 .1 .0, r .1 .1 .1 .1 .0, t))),
+            (whole inPortStatusChange (ofPortStatusChange (cycleOf trb)) (dword trb 3) (z .z3) (rw (flag-is (dword trb 3 / 2 ^ 0), r .1 .1 .1 .0, r .1 .1 .1 .1 .0, t))),
       ))
 
   sound : Sound trb (eventOf trb)
   unfolding eventOf
   sound =
-      by-row (Sound trb) (eqb (typeOf trb) types.transferEvent) _ _ (λ h. sound-transfer (eqb-true _ _ h)) (λ n.
-      by-row (Sound trb) (eqb (typeOf trb) types.commandCompletionEvent) _ _ (λ h. sound-command-completion (eqb-true _ _ h)) (λ m.
-      by-row (Sound trb) (eqb (typeOf trb) types.portStatusChangeEvent) _ _ (λ h. sound-port-status-change (eqb-true _ _ h)) (λ q. tt)))
+      by-type (Sound trb) trb types.transferEvent _ _ sound-transfer (λ n.
+      by-type (Sound trb) trb types.commandCompletionEvent _ _ sound-command-completion (λ m.
+      by-type (Sound trb) trb types.portStatusChangeEvent _ _ sound-port-status-change (λ q. tt)))
 
 -- ---- what is written is read
 
