@@ -1,14 +1,15 @@
--- A code's number and a byte's code undo each other, and a byte is of the class Listed exactly if it has a code. Assumes nothing.
+-- A code's number and a byte's code undo each other, a byte is of the class Listed exactly if it has a code, and what
+-- `code_of` answers shows this. Assumes nothing.
 use Prim.Native.Nat.{ℕ, zero, suc, _^_, _<_, _≤_}
 use native.Mathlib.Decide.{decLt}
 use native.Mathlib.Nat.{le-of-suc-le-suc, not-suc-le-zero}
 use native.Mathlib.Omega.{arith}
 use mathlib.Core.Bool.{Bool, true, false, cond, _&&_, Bool·beq}
 use mathlib.Core.List.{List, [], _∷_}
-use mathlib.Core.Path.{_≡_, refl}
+use mathlib.Core.Path.{_≡_, refl, ap, _∙_}
 use lib.Dec.{T, ltb, eqb, ltb→lt}
 use borrow.Author.Tests.{eqb-true, le-ltb, ne-eqb}
-use Rattle.codes.specs.Codes.{numberOf, codes, find, codeOf, classOf}
+use Rattle.codes.specs.Codes.{numberOf, codes, find, codeOf, classOf, numberOfCoded, valuesOfCoded}
 use Rattle.codes.specs.declared.CompletionCode.{CompletionCode}
 use Rattle.codes.specs.declared.Class.{Class}
 use Rattle.codes.specs.declared.Coded.{Coded}
@@ -143,3 +144,19 @@ listed-exactly n = by (decLt n 37)
     by (no h) =
         rw (above-36 n (omega arith), ne-eqb n 30 (λ e. omega arith), le-ltb n 37 (omega arith))
         (not-listed (ltb n 192) (ltb n 224))
+
+-- what `code_of` answers, by the class of the byte: a listed byte is its code's number, and any other gives refusal 12
+pub record OfCode (n : ℕ) (x : Coded) : Type 0 where
+  pub number : numberOfCoded x ≡ cond (isListed (classOf n)) 0 12
+  pub values : valuesOfCoded x ≡ cond (isListed (classOf n)) (n ∷ []) []
+
+pub code-shown : (n : ℕ) → OfCode n (codeOf n)
+code-shown n = by (codeOf n) refl
+  where
+    by : (x : Coded) → codeOf n ≡ x → OfCode n x
+    by (Coded.Listed k) e =
+        let c : isListed (classOf n) ≡ true = listed-exactly n ∙ ap isCode e in
+        record { number = rw c; values = rw (c, number-of-code n k e) }
+    by Coded.Unlisted e =
+        let c : isListed (classOf n) ≡ false = listed-exactly n ∙ ap isCode e in
+        record { number = rw c; values = rw c }

@@ -1,27 +1,19 @@
--- The marked cases of document 01, one statement over them all, computed from the definitions that the contracts cite. Assumes nothing.
+-- The marked cases of document 01, one statement over them all, of the definitions that the contracts cite; P1 and P4 for every TRB. Assumes nothing.
 use mathlib.Core.Path.{_≡_, refl}
 use mathlib.Core.Bool.{true, false}
 use mathlib.Core.List.{List, [], _∷_}
 use Prim.Native.Nat.{ℕ}
 use Rattle.guest.specs.Judge.{judge}
 use Rattle.guest.specs.Memory.{le}
-use Rattle.guest.specs.Fields.{bytesOf}
-use Rattle.guest.specs.declared.TrbAnswer.{TrbAnswer}
+use Rattle.guest.specs.Fields.{field, bytesOf}
 use Rattle.codes.specs.Codes.{numberOf}
 use Rattle.codes.specs.declared.CompletionCode.{CompletionCode}
-use Rattle.trb.specs.Events.{eventDwords, valid, bytesAnswered}
+use Rattle.trb.specs.Trb.{typeOf}
+use Rattle.trb.specs.Events.{eventDwords, valid, accepted, bytesAnswered}
 use Rattle.trb.specs.Commands as commands
 use Rattle.trb.specs.Transfers as transfers
 use Rattle.trb.specs.declared.event.EventTrb.{EventTrb}
 use Rattle.trb.specs.declared.command.CommandTrbVariant.{CommandTrbVariant}
-
--- sixteen bytes, accepted
-abbrev accepted : List ℕ → TrbAnswer
-accepted trb = record { refusal = 0; trb = trb }
-
--- sixteen bytes of which byte 0 and the type are given, and what stands in bytes 10 to 12
-abbrev trbOf : ℕ → ℕ → ℕ → ℕ → ℕ → List ℕ
-trbOf first ten eleven twelve thirteen = first ∷ 0 ∷ 0 ∷ 0 ∷ 0 ∷ 0 ∷ 0 ∷ 0 ∷ 0 ∷ 0 ∷ ten ∷ eleven ∷ twelve ∷ thirteen ∷ 0 ∷ 0 ∷ []
 
 pub record Marked : Type 0 where
   -- command completion, pointer 0x1000, parameter 0, code 1, slot 1, cycle 1
@@ -48,11 +40,11 @@ pub record Marked : Type 0 where
         «slot_id» = 2;
       })) true
       ≡ accepted (0x10 ∷ 0x20 ∷ 0 ∷ 0 ∷ 0 ∷ 0 ∷ 0 ∷ 0 ∷ 0x05 ∷ 0 ∷ 0 ∷ 0x0d ∷ 0x05 ∷ 0x80 ∷ 0x03 ∷ 0x02 ∷ [])
-  -- type 11, byte 0 = 0x08, rest of pointer 0: refusal 11
-  pub P1 : commands.commandOf (trbOf 0x08 0 0 0 0x2c) ≡ commands.unrecognized 11 0 (trbOf 0x08 0 0 0 0x2c)
+  -- type 11, the pointer's low four bits 0x08: refusal 11
+  pub P1 : (trb : List ℕ) → typeOf trb ≡ 11 → field trb 0 0 4 ≡ 0x08 → commands.commandOf trb ≡ commands.unrecognized 11 0 trb
   -- type 16, byte 0 = 0x47, bytes 10 to 12 = 34 12 01: cycle 1, type 3, pointer 0x40, stream 0x1234
   pub P2 :
-      commands.commandOf (trbOf 0x47 0x34 0x12 0x01 0x40)
+      commands.commandOf (0x47 ∷ 0 ∷ 0 ∷ 0 ∷ 0 ∷ 0 ∷ 0 ∷ 0 ∷ 0 ∷ 0 ∷ 0x34 ∷ 0x12 ∷ 0x01 ∷ 0x40 ∷ 0 ∷ 0 ∷ [])
       ≡ commands.answered (CommandTrbVariant.SetTrDequeuePointer (record {
         «dequeue_cycle_state» = true;
         «stream_context_type» = 3;
@@ -62,9 +54,18 @@ pub record Marked : Type 0 where
         «slot_id» = 0;
       }))
   -- type 6 in the transfer parser: refusal 10 with 6; type 18 as command: 9
-  pub P4-transfer : transfers.transferOf (trbOf 0 0 0 0 0x18) ≡ transfers.unrecognized 10 6 (trbOf 0 0 0 0 0x18)
-  pub P4-command : commands.commandOf (trbOf 0 0 0 0 0x48) ≡ commands.unrecognized 9 18 (trbOf 0 0 0 0 0x48)
+  pub P4-transfer : (trb : List ℕ) → typeOf trb ≡ 6 → transfers.transferOf trb ≡ transfers.unrecognized 10 6 trb
+  pub P4-command : (trb : List ℕ) → typeOf trb ≡ 18 → commands.commandOf trb ≡ commands.unrecognized 9 18 trb
 
 pub marked : Marked
 unfolding judge le bytesOf numberOf eventDwords valid bytesAnswered commands.commandOf transfers.transferOf
-marked = record { E1 = refl; E2 = refl; E3 = refl; P1 = refl; P2 = refl; P4-transfer = refl; P4-command = refl }
+marked =
+    record {
+      E1 = refl;
+      E2 = refl;
+      E3 = refl;
+      P1 = λ trb t low. rw (t, low);
+      P2 = refl;
+      P4-transfer = λ trb t. rw t;
+      P4-command = λ trb t. rw t;
+    }

@@ -1,4 +1,5 @@
 pub mod Raw
+pub mod Rows
 pub mod Pack
 pub mod Coded
 pub mod Parts

@@ -1,17 +1,19 @@
 -- Events, one encoding each: what is written is read back, and what is read was written, by one event and cycle bit. Assumes nothing.
 use mathlib.Core.Path.{_≡_, refl, sym, ap, _∙_, subst}
-use mathlib.Core.Bool.{Bool, true, false, cond, _&&_}
+use mathlib.Core.Bool.{Bool, true, false, cond, _&&_, false≢true}
 use mathlib.Core.List.{List, [], _∷_}
 use mathlib.Core.Logic.{_↔_}
 use Prim.{Unit, tt}
-use Prim.Native.Nat.{ℕ, zero, suc, _+_, _*_, _^_, _<_}
+use Prim.Native.Nat.{ℕ, _+_, _*_, _/_, _^_, _<_}
 use native.Mathlib.Omega.{arith}
 use borrow.Author.Tests.{eqb-true, eq-eqb, lt-ltb, ltb-true}
 use lib.Dec.{eqb, ltb, lit<}
 use lib.ListN.{length, getD}
+use Rattle.guest.specs.Refusals.{event}
 use Rattle.guest.specs.Judge.{judge}
-use Rattle.guest.specs.Fields.{bits, dword, field, dwordsOf, bytesOfDwords}
+use Rattle.guest.specs.Fields.{bits, dword, field, dwordsOf, bytesOf, bytesOfDwords}
 use Rattle.guest.specs.declared.Dwords.{Dwords}
+use Rattle.guest.specs.declared.TrbAnswer.{TrbAnswer}
 use Rattle.guest.proofs.Tests.{both}
 use Rattle.guest.proofs.Judge.{judge-by}
 use Rattle.guest.proofs.Memory.{Bytes}
@@ -20,23 +22,21 @@ use Rattle.codes.specs.Codes.{numberOf, codeOf}
 use Rattle.codes.specs.Types as types
 use Rattle.codes.specs.declared.CompletionCode.{CompletionCode}
 use Rattle.codes.specs.declared.Coded.{Coded}
-use Rattle.codes.proofs.Codes.{code-of-number, number-of-code, number-lt}
+use Rattle.codes.proofs.Codes.{code-of-number, number-lt}
 use Rattle.trb.specs.Trb.{typeOf, cycleOf, pointerOf, flagOf, bit}
-use Rattle.trb.specs.Events.{pack, inCode, ofCode, inTransfer, ofTransfer, transferDwords, inCommandCompletion, ofCommandCompletion, commandCompletionDwords, inPortStatusChange, ofPortStatusChange, portStatusChangeDwords, eventDwords, eventBytes, valid, clear, reservedInTransfer, reservedInCommandCompletion, reservedInPortStatusChange, codeIn, isListed, listedIn, readTests, answered, unrecognized, transferAs, commandCompletionAs, portStatusChangeAs, eventOf}
+use Rattle.trb.specs.Events.{pack, inCode, ofCode, inTransfer, ofTransfer, transferDwords, inCommandCompletion, ofCommandCompletion, commandCompletionDwords, inPortStatusChange, ofPortStatusChange, portStatusChangeDwords, eventDwords, eventBytes, valid, refused, accepted, bytesAnswered, clear, reservedInTransfer, reservedInCommandCompletion, reservedInPortStatusChange, codeIn, isListed, listedIn, readTests, answered, unrecognized, transferAs, commandCompletionAs, portStatusChangeAs, eventOf}
 use Rattle.trb.specs.declared.event.TransferEventTrbData.{TransferEventTrbData}
 use Rattle.trb.specs.declared.event.CommandCompletionEventTrbData.{CommandCompletionEventTrbData}
 use Rattle.trb.specs.declared.event.PortStatusChangeEventTrbData.{PortStatusChangeEventTrbData}
 use Rattle.trb.specs.declared.event.EventTrb.{EventTrb}
 use Rattle.trb.specs.declared.event.EventVariant.{EventVariant}
 use Rattle.trb.specs.declared.event.ParsedEvent.{ParsedEvent}
+use Rattle.trb.proofs.Raw.{flag-is}
 use Rattle.trb.proofs.Pack.{whole, Packed, packed}
+use Rattle.trb.proofs.Rows.{by-type}
+use Rattle.trb.proofs.Coded.{listed-number}
 
 -- ---- flags, codes, and fields that are 0
-
-bit-is : (n : ℕ) → n < 2 → bit (eqb n 1) ≡ n
-bit-is zero h = refl
-bit-is (suc zero) h = refl
-bit-is (suc (suc n)) h = absurd (omega arith)
 
 bit-back : (b : Bool) → eqb (bit b) 1 ≡ b
 bit-back true = refl
@@ -45,10 +45,6 @@ bit-back false = refl
 bit-lt : (b : Bool) → bit b < 2
 bit-lt true = omega arith
 bit-lt false = omega arith
-
-listed-is : (x : Coded) → isListed x ≡ true → x ≡ Coded.Listed (listedIn x)
-listed-is (Coded.Listed k) h = refl
-listed-is Coded.Unlisted h = let z : _≡_ {A = ℕ} 0 1 = cc in absurd (omega arith)
 
 abbrev Zeros : List ℕ → List (ℕ × ℕ × ℕ) → Type 0
 Zeros trb [] = Unit
@@ -60,19 +56,11 @@ zeros trb ((k, lo, w) ∷ fs) h =
     let p = both (eqb (field trb k lo w) 0) (clear trb fs) h in
     (eqb-true (field trb k lo w) 0 (p .0), zeros trb fs (p .1))
 
--- ---- what is written is an event whose fields are of their types and fit
-
 -- the fields are of their types
 abbrev pub Typed : EventTrb → Type 0
 Typed (EventTrb.Transfer t) = (t .«trb_pointer» < 2 ^ 64) × (t .«endpoint_id» < 2 ^ 8) × (t .«slot_id» < 2 ^ 8)
 Typed (EventTrb.CommandCompletion t) = (t .«command_trb_pointer» < 2 ^ 64) × (t .«slot_id» < 2 ^ 8)
 Typed (EventTrb.PortStatusChange t) = t .«port_id» < 2 ^ 8
-
--- sixteen bytes are those of the event e with the cycle bit c
-pub record Written (e : EventTrb) (c : Bool) (trb : List ℕ) : Type 0 where
-  pub typed : Typed e
-  pub fits : valid e ≡ true
-  pub bytes : eventBytes e c ≡ trb
 
 -- ---- what is read was written
 
@@ -87,11 +75,6 @@ Sound trb p = soundIn (p .variant)
 same-dwords : (d : Dwords) {a b c e : ℕ} → a ≡ d .d0 → b ≡ d .d1 → c ≡ d .d2 → e ≡ d .d3 → record { d0 = a; d1 = b; d2 = c; d3 = e } ≡ d
 same-dwords d p q r s = rw (p, q, r, s)
 
--- a row, or the rows after it
-by-row : (P : ParsedEvent → Type 0) (b : Bool) (x y : ParsedEvent) → (b ≡ true → P x) → (b ≡ false → P y) → P (cond b x y)
-by-row P true x y f g = f refl
-by-row P false x y f g = g refl
-
 module _ (trb : List ℕ) (z : Sized (dwordsOf trb)) where
   low-half : bits (pointerOf trb) 0 32 ≡ dword trb 0
   low-half = omega arith
@@ -99,13 +82,10 @@ module _ (trb : List ℕ) (z : Sized (dwordsOf trb)) where
   high-half : bits (pointerOf trb) 32 32 ≡ dword trb 1
   high-half = omega arith
 
-  flag-is : (k lo : ℕ) → bit (flagOf trb k lo) ≡ field trb k lo 1
-  flag-is k lo = bit-is (field trb k lo 1) (omega arith)
-
   code-is : isListed (codeIn trb) ≡ true → pack inCode (ofCode (field trb 2 0 24) (listedIn (codeIn trb))) ≡ dword trb 2
   code-is h =
       whole inCode (ofCode (field trb 2 0 24) (listedIn (codeIn trb))) (dword trb 2) (z .z2)
-      (rw (number-of-code (field trb 2 24 8) (listedIn (codeIn trb)) (listed-is (codeIn trb) h)))
+      (rw (listed-number trb h))
 
   sound-transfer : typeOf trb ≡ types.transferEvent → Sound trb (transferAs trb)
   unfolding valid eventDwords
@@ -117,7 +97,7 @@ module _ (trb : List ℕ) (z : Sized (dwordsOf trb)) where
         lt-ltb (field trb 2 0 24) (2 ^ 24) (omega arith),
         same-dwords (dwordsOf trb) low-half high-half (code-is (p .0))
             (whole inTransfer (bit (cycleOf trb) ∷ 0 ∷ bit (flagOf trb 3 2) ∷ 0 ∷ types.transferEvent ∷ field trb 3 16 8 ∷ field trb 3 24 8 ∷ []) (dword trb 3) (z .z3)
-            (rw (flag-is 3 0, flag-is 3 2, r .0, r .1 .0, t))),
+            (rw (flag-is (dword trb 3 / 2 ^ 0), flag-is (dword trb 3 / 2 ^ 2), r .0, r .1 .0, t))),
       ))
 
   sound-command-completion : typeOf trb ≡ types.commandCompletionEvent → Sound trb (commandCompletionAs trb)
@@ -131,7 +111,7 @@ module _ (trb : List ℕ) (z : Sized (dwordsOf trb)) where
         rw (eq-eqb _ 0 low, lt-ltb (field trb 2 0 24) (2 ^ 24) (omega arith)),
         same-dwords (dwordsOf trb) low-half high-half (code-is (p .0))
             (whole inCommandCompletion (bit (cycleOf trb) ∷ 0 ∷ types.commandCompletionEvent ∷ 0 ∷ field trb 3 24 8 ∷ []) (dword trb 3) (z .z3)
-            (rw (flag-is 3 0, r .1 .0, r .1 .1 .0, t))),
+            (rw (flag-is (dword trb 3 / 2 ^ 0), r .1 .0, r .1 .1 .0, t))),
       ))
 
   sound-port-status-change : typeOf trb ≡ types.portStatusChangeEvent → Sound trb (portStatusChangeAs trb)
@@ -147,15 +127,15 @@ module _ (trb : List ℕ) (z : Sized (dwordsOf trb)) where
             (whole inCode (0 ∷ field trb 0 24 8 ∷ []) (dword trb 0) (z .z0) (rw (r .0)))
             (omega (arith, r .1 .0))
             (whole inCode (0 ∷ 1 ∷ []) (dword trb 2) (z .z2) (rw (r .1 .1 .0, one)))
-            (whole inPortStatusChange (ofPortStatusChange (cycleOf trb)) (dword trb 3) (z .z3) (rw (flag-is 3 0, r .1 .1 .1 .0, r .1 .1 .1 .1 .0, t))),
+            (whole inPortStatusChange (ofPortStatusChange (cycleOf trb)) (dword trb 3) (z .z3) (rw (flag-is (dword trb 3 / 2 ^ 0), r .1 .1 .1 .0, r .1 .1 .1 .1 .0, t))),
       ))
 
   sound : Sound trb (eventOf trb)
   unfolding eventOf
   sound =
-      by-row (Sound trb) (eqb (typeOf trb) types.transferEvent) _ _ (λ h. sound-transfer (eqb-true _ _ h)) (λ n.
-      by-row (Sound trb) (eqb (typeOf trb) types.commandCompletionEvent) _ _ (λ h. sound-command-completion (eqb-true _ _ h)) (λ m.
-      by-row (Sound trb) (eqb (typeOf trb) types.portStatusChangeEvent) _ _ (λ h. sound-port-status-change (eqb-true _ _ h)) (λ q. tt)))
+      by-type (Sound trb) trb types.transferEvent _ _ sound-transfer (λ n.
+      by-type (Sound trb) trb types.commandCompletionEvent _ _ sound-command-completion (λ m.
+      by-type (Sound trb) trb types.portStatusChangeEvent _ _ sound-port-status-change (λ q. tt)))
 
 -- ---- what is written is read
 
@@ -256,16 +236,15 @@ reads-port-status-change t c y z =
     let g = port-status-change-packed c .read in
     rw (at3 d z, nth 2 g, at2 d z, at0 d z, nth 0 h, at1 d z, nth 1 g, nth 3 g, nth 1 h)
 
--- ---- the statements
+-- ---- the bytes of a valid event
 
--- read after write gives the event back, for every valid event and both cycle bits
-pub read-after-write : (e : EventTrb) (c : Bool) → Typed e → valid e ≡ true → eventOf (eventBytes e c) ≡ answered e
+pub reads-back : (e : EventTrb) (c : Bool) → Typed e → valid e ≡ true → eventOf (eventBytes e c) ≡ answered e
 unfolding valid eventDwords
-read-after-write (EventTrb.Transfer t) c y v =
+reads-back (EventTrb.Transfer t) c y v =
     reads-transfer t c y (dwords-sized (EventTrb.Transfer t) c y v) (ltb-true _ (2 ^ 24) v)
-read-after-write (EventTrb.CommandCompletion t) c y v =
+reads-back (EventTrb.CommandCompletion t) c y v =
     reads-command-completion t c y (dwords-sized (EventTrb.CommandCompletion t) c y v) (fits t v)
-read-after-write (EventTrb.PortStatusChange t) c y v =
+reads-back (EventTrb.PortStatusChange t) c y v =
     reads-port-status-change t c y (dwords-sized (EventTrb.PortStatusChange t) c y v)
 
 cycle-of : (e : EventTrb) (c : Bool) → Typed e → bits (eventDwords e c .d3) 0 1 ≡ bit c
@@ -274,26 +253,69 @@ cycle-of (EventTrb.Transfer t) c y = nth 0 (transfer-packed t c y .read)
 cycle-of (EventTrb.CommandCompletion t) c y = nth 0 (command-completion-packed t c y .read)
 cycle-of (EventTrb.PortStatusChange t) c y = nth 0 (port-status-change-packed c .read)
 
--- and its cycle bit is the one that was given
-pub cycle-after-write : (e : EventTrb) (c : Bool) → Typed e → valid e ≡ true → cycleOf (eventBytes e c) ≡ c
-cycle-after-write e c y v = rw (at3 (eventDwords e c) (dwords-sized e c y v), cycle-of e c y) (bit-back c)
+pub cycle-back : (e : EventTrb) (c : Bool) → Typed e → valid e ≡ true → cycleOf (eventBytes e c) ≡ c
+cycle-back e c y v = rw (at3 (eventDwords e c) (dwords-sized e c y v), cycle-of e c y) (bit-back c)
 
--- so no sixteen bytes are those of two events, or of two cycle bits
-pub written-once : (e f : EventTrb) (c d : Bool) → Typed e → Typed f → valid e ≡ true → valid f ≡ true
-    → eventBytes e c ≡ eventBytes f d → (e ≡ f) × (c ≡ d)
-written-once e f c d y x v u b =
-    let read : answered e ≡ answered f = sym (read-after-write e c y v) ∙ ap eventOf b ∙ read-after-write f d x u in
+pub bytes-length : (e : EventTrb) (c : Bool) → length (eventBytes e c) ≡ 16
+unfolding bytesOf
+bytes-length e c = refl
+
+-- ---- what the encoder answers: bytes exactly if the event is valid, and refusal 8 exactly if it is not
+
+pub accepted-exactly : (e : EventTrb) (c : Bool) (trb : List ℕ)
+    → (bytesAnswered e c ≡ accepted trb) ↔ ((valid e ≡ true) × (eventBytes e c ≡ trb))
+unfolding judge bytesAnswered
+accepted-exactly e c trb = by (valid e)
+  where
+    by : (b : Bool) → (judge ((event, b) ∷ []) refused (accepted (eventBytes e c)) ≡ accepted trb) ↔ ((b ≡ true) × (eventBytes e c ≡ trb))
+    by true = (λ h. (refl, ap (λ (r : TrbAnswer). r .trb) h), λ h. ap accepted (h .1))
+    by false = (λ h. absurd (omega (arith, ap (λ (r : TrbAnswer). r .refusal) h)), λ h. absurd (false≢true (h .0)))
+
+pub refused-exactly : (e : EventTrb) (c : Bool) → (bytesAnswered e c ≡ refused event) ↔ (valid e ≡ false)
+unfolding judge bytesAnswered
+refused-exactly e c = by (valid e)
+  where
+    by : (b : Bool) → (judge ((event, b) ∷ []) refused (accepted (eventBytes e c)) ≡ refused event) ↔ (b ≡ false)
+    by true = (λ h. absurd (omega (arith, ap (λ (r : TrbAnswer). r .refusal) h)), λ h. absurd (false≢true (sym h)))
+    by false = (λ h. refl, λ h. refl)
+
+-- ---- the statements
+
+-- sixteen bytes are the encoder's answer for the event e, its fields of their types, and the cycle bit c
+pub record Written (e : EventTrb) (c : Bool) (trb : List ℕ) : Type 0 where
+  pub typed : Typed e
+  pub bytes : bytesAnswered e c ≡ accepted trb
+
+-- read after write gives the event back, for both cycle bits
+pub read-after-write : (e : EventTrb) (c : Bool) (trb : List ℕ) → Written e c trb → eventOf trb ≡ answered e
+read-after-write e c trb w =
+    let a = accepted-exactly e c trb .0 (w .bytes) in
+    ap eventOf (sym (a .1)) ∙ reads-back e c (w .typed) (a .0)
+
+-- and the cycle bit that was given
+pub cycle-after-write : (e : EventTrb) (c : Bool) (trb : List ℕ) → Written e c trb → cycleOf trb ≡ c
+cycle-after-write e c trb w =
+    let a = accepted-exactly e c trb .0 (w .bytes) in
+    ap cycleOf (sym (a .1)) ∙ cycle-back e c (w .typed) (a .0)
+
+-- so no sixteen bytes are written for two events, or for two cycle bits
+pub written-once : {e f : EventTrb} {c d : Bool} {trb : List ℕ} → Written e c trb → Written f d trb → (e ≡ f) × (c ≡ d)
+written-once {e} {f} {c} {d} {trb} w v =
+    let read : answered e ≡ answered f = sym (read-after-write e c trb w) ∙ read-after-write f d trb v in
     let event : EventVariant.Event e ≡ EventVariant.Event f = ap (λ (p : ParsedEvent). p .variant) read in (
       cc,
-      sym (cycle-after-write e c y v) ∙ ap cycleOf b ∙ cycle-after-write f d x u,
+      sym (cycle-after-write e c trb w) ∙ cycle-after-write f d trb v,
     )
 
--- what is read was written: sixteen bytes are read as the event e exactly if they are its bytes, with the cycle bit that stands there
+-- what is read was written: sixteen bytes are read as the event e exactly if they are written for it, with the cycle bit that stands there
 pub reads-exactly : (trb : List ℕ) (e : EventTrb) → Bytes trb → length trb ≡ 16
     → (eventOf trb .variant ≡ EventVariant.Event e) ↔ Written e (cycleOf trb) trb
 reads-exactly trb e b n = (
   λ r.
       let s = rw r at (sound trb (split-sized trb b)) in
-      record { typed = s .0; fits = s .1; bytes = ap bytesOfDwords (s .2) ∙ join-split trb b n },
-  λ w. ap (λ (l : List ℕ). eventOf l .variant) (sym (w .bytes)) ∙ ap (λ (p : ParsedEvent). p .variant) (read-after-write e (cycleOf trb) (w .typed) (w .fits)),
+      record {
+        typed = s .0;
+        bytes = accepted-exactly e (cycleOf trb) trb .1 (s .1, ap bytesOfDwords (s .2) ∙ join-split trb b n);
+      },
+  λ w. ap (λ (p : ParsedEvent). p .variant) (read-after-write e (cycleOf trb) trb w),
 )

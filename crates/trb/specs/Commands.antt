@@ -1,15 +1,15 @@
 -- Command TRBs, xHCI 6.4.3. Dword 3 has the slot id in bits 31:24 and the endpoint id in bits 20:16; types 11 to 13 have a pointer
 -- to an input context, whose low four bits must be 0 (refusal 11), in dwords 0 and 1.
 use Prim.Native.Nat.{ℕ}
-use mathlib.Core.List.{List, [], _∷_}
-use mathlib.Core.Bool.{cond}
+use mathlib.Core.List.{List, [], _∷_, _++_}
+use mathlib.Core.Bool.{not, _||_}
 use lib.ListN.{replicate}
-use lib.Dec.{ltb, eqb}
+use lib.Dec.{eqb}
 use Rattle.guest.specs.Refusals.{optional, type, reserved}
-use Rattle.guest.specs.Judge.{judge}
+use Rattle.guest.specs.Judge.{Tests}
 use Rattle.guest.specs.Fields.{field}
 use Rattle.codes.specs.Types as types
-use Rattle.trb.specs.Trb.{typeOf, alignedOf, flagOf, bit, when, _or_}
+use Rattle.trb.specs.Trb.{typeOf, pointerOf, alignedOf, flagOf, bit, when, _or_, _to_, oneOf, valuesShown}
 use Rattle.trb.specs.declared.command.CommandTrbVariant.{CommandTrbVariant}
 use Rattle.trb.specs.declared.command.ParsedCommand.{ParsedCommand}
 
@@ -83,7 +83,6 @@ resetDeviceAs trb = answered (CommandTrbVariant.ResetDevice (record { «slot_id�
 unfoldable pub commandOf : List ℕ → ParsedCommand
 commandOf trb =
     let t = typeOf trb in
-    when (ltb t types.enableSlot) (unrecognized type t trb) or
     when (eqb t types.enableSlot) (answered CommandTrbVariant.EnableSlot) or
     when (eqb t types.disableSlot) (disableSlotAs trb) or
     when (eqb t types.addressDevice) (addressDeviceAs trb) or
@@ -93,38 +92,67 @@ commandOf trb =
     when (eqb t types.stopEndpoint) (stopEndpointAs trb) or
     when (eqb t types.setTrDequeuePointer) (setTrDequeuePointerAs trb) or
     when (eqb t types.resetDevice) (resetDeviceAs trb) or
-    when (ltb t types.forceHeader) (unrecognized optional t trb) or
+    when (oneOf t (types.forceEvent to types.getPortBandwidth)) (unrecognized optional t trb) or
     when (eqb t types.forceHeader) (answered CommandTrbVariant.ForceHeader) or
     when (eqb t types.noOpCommand) (answered CommandTrbVariant.NoOp) or
     unrecognized type t trb
 
--- ---- document 01's number of an answer, its TRB type or 0 for a refusal, and its values
+-- ---- document 01's number of an answer, 0 where nothing is refused, and its values: the type, then the fields
 
 abbrev pub numberOf : CommandTrbVariant → ℕ
-numberOf CommandTrbVariant.NoOp = types.noOpCommand
-numberOf CommandTrbVariant.EnableSlot = types.enableSlot
-numberOf (CommandTrbVariant.DisableSlot d) = types.disableSlot
-numberOf (CommandTrbVariant.AddressDevice d) = types.addressDevice
-numberOf (CommandTrbVariant.ConfigureEndpoint d) = types.configureEndpoint
-numberOf (CommandTrbVariant.EvaluateContext d) = types.evaluateContext
-numberOf (CommandTrbVariant.ResetEndpoint d) = types.resetEndpoint
-numberOf (CommandTrbVariant.StopEndpoint d) = types.stopEndpoint
-numberOf (CommandTrbVariant.SetTrDequeuePointer d) = types.setTrDequeuePointer
-numberOf (CommandTrbVariant.ResetDevice d) = types.resetDevice
-numberOf CommandTrbVariant.ForceHeader = types.forceHeader
-numberOf (CommandTrbVariant.Unrecognized e) = 0
+numberOf CommandTrbVariant.NoOp = 0
+numberOf CommandTrbVariant.EnableSlot = 0
+numberOf (CommandTrbVariant.DisableSlot d) = 0
+numberOf (CommandTrbVariant.AddressDevice d) = 0
+numberOf (CommandTrbVariant.ConfigureEndpoint d) = 0
+numberOf (CommandTrbVariant.EvaluateContext d) = 0
+numberOf (CommandTrbVariant.ResetEndpoint d) = 0
+numberOf (CommandTrbVariant.StopEndpoint d) = 0
+numberOf (CommandTrbVariant.SetTrDequeuePointer d) = 0
+numberOf (CommandTrbVariant.ResetDevice d) = 0
+numberOf CommandTrbVariant.ForceHeader = 0
+numberOf (CommandTrbVariant.Unrecognized e) = e .number
 
 abbrev pub valuesOf : CommandTrbVariant → List ℕ
-valuesOf CommandTrbVariant.NoOp = []
-valuesOf CommandTrbVariant.EnableSlot = []
-valuesOf (CommandTrbVariant.DisableSlot d) = d .«slot_id» ∷ []
-valuesOf (CommandTrbVariant.AddressDevice d) = d .«input_context_pointer» ∷ bit (d .«block_set_address_request») ∷ d .«slot_id» ∷ []
-valuesOf (CommandTrbVariant.ConfigureEndpoint d) = d .«input_context_pointer» ∷ bit (d .deconfigure) ∷ d .«slot_id» ∷ []
-valuesOf (CommandTrbVariant.EvaluateContext d) = d .«input_context_pointer» ∷ d .«slot_id» ∷ []
-valuesOf (CommandTrbVariant.ResetEndpoint d) = d .«endpoint_id» ∷ d .«slot_id» ∷ []
-valuesOf (CommandTrbVariant.StopEndpoint d) = d .«endpoint_id» ∷ d .«slot_id» ∷ []
+valuesOf CommandTrbVariant.NoOp = types.noOpCommand ∷ []
+valuesOf CommandTrbVariant.EnableSlot = types.enableSlot ∷ []
+valuesOf (CommandTrbVariant.DisableSlot d) = types.disableSlot ∷ d .«slot_id» ∷ []
+valuesOf (CommandTrbVariant.AddressDevice d) =
+    types.addressDevice ∷ d .«input_context_pointer» ∷ bit (d .«block_set_address_request») ∷ d .«slot_id» ∷ []
+valuesOf (CommandTrbVariant.ConfigureEndpoint d) =
+    types.configureEndpoint ∷ d .«input_context_pointer» ∷ bit (d .deconfigure) ∷ d .«slot_id» ∷ []
+valuesOf (CommandTrbVariant.EvaluateContext d) = types.evaluateContext ∷ d .«input_context_pointer» ∷ d .«slot_id» ∷ []
+valuesOf (CommandTrbVariant.ResetEndpoint d) = types.resetEndpoint ∷ d .«endpoint_id» ∷ d .«slot_id» ∷ []
+valuesOf (CommandTrbVariant.StopEndpoint d) = types.stopEndpoint ∷ d .«endpoint_id» ∷ d .«slot_id» ∷ []
 valuesOf (CommandTrbVariant.SetTrDequeuePointer d) =
-    bit (d .«dequeue_cycle_state») ∷ d .«stream_context_type» ∷ d .«dequeue_pointer» ∷ d .«stream_id» ∷ d .«endpoint_id» ∷ d .«slot_id» ∷ []
-valuesOf (CommandTrbVariant.ResetDevice d) = d .«slot_id» ∷ []
-valuesOf CommandTrbVariant.ForceHeader = []
-valuesOf (CommandTrbVariant.Unrecognized e) = e .number ∷ e .«trb_type» ∷ []
+    types.setTrDequeuePointer ∷ bit (d .«dequeue_cycle_state») ∷ d .«stream_context_type» ∷ d .«dequeue_pointer» ∷ d .«stream_id»
+    ∷ d .«endpoint_id» ∷ d .«slot_id» ∷ []
+valuesOf (CommandTrbVariant.ResetDevice d) = types.resetDevice ∷ d .«slot_id» ∷ []
+valuesOf CommandTrbVariant.ForceHeader = types.forceHeader ∷ []
+valuesOf (CommandTrbVariant.Unrecognized e) = e .«trb_type» ∷ []
+
+-- ---- the same from the TRB itself, in document 01's numbers; proofs/Shown.antt proves that every answer has these
+
+-- the refusals, each given exactly when its test is the first that fails
+abbrev pub commandTests : List ℕ → Tests
+commandTests trb =
+    let t = typeOf trb in
+    (optional, not (oneOf t (18 to 21))) ∷
+    (type, oneOf t (9 to 17 ++ 22 to 23)) ∷
+    (reserved, not (oneOf t (11 to 13)) || eqb (field trb 0 0 4) 0) ∷ []
+
+-- the fields of a TRB that is not refused
+abbrev pub commandFields : List ℕ → List ℕ
+commandFields trb =
+    let t = typeOf trb in
+    let slot = field trb 3 24 8 in
+    let endpoint = field trb 3 16 5 in
+    when (oneOf t (10 ∷ 17 ∷ [])) (slot ∷ []) or
+    when (oneOf t (11 to 12)) (pointerOf trb ∷ field trb 3 9 1 ∷ slot ∷ []) or
+    when (eqb t 13) (pointerOf trb ∷ slot ∷ []) or
+    when (oneOf t (14 to 15)) (endpoint ∷ slot ∷ []) or
+    when (eqb t 16) (field trb 0 0 1 ∷ field trb 0 1 3 ∷ alignedOf trb ∷ field trb 2 16 16 ∷ endpoint ∷ slot ∷ []) or
+    []
+
+abbrev pub commandValues : List ℕ → List ℕ
+commandValues trb = valuesShown (commandTests trb) trb (commandFields trb)

@@ -13,7 +13,7 @@ use Rattle.codes.specs.Codes.{numberOf, codeOf}
 use Rattle.codes.specs.Types as types
 use Rattle.codes.specs.declared.CompletionCode.{CompletionCode}
 use Rattle.codes.specs.declared.Coded.{Coded}
-use Rattle.trb.specs.Trb.{typeOf, pointerOf, flagOf, bit, when, _or_}
+use Rattle.trb.specs.Trb.{typeOf, pointerOf, flagOf, bit, when, _or_, _to_, oneOf, valuesShown}
 use Rattle.trb.specs.declared.event.TransferEventTrbData.{TransferEventTrbData}
 use Rattle.trb.specs.declared.event.CommandCompletionEventTrbData.{CommandCompletionEventTrbData}
 use Rattle.trb.specs.declared.event.PortStatusChangeEventTrbData.{PortStatusChangeEventTrbData}
@@ -102,11 +102,14 @@ valid (EventTrb.PortStatusChange t) = true
 abbrev pub eventTests : EventTrb → Tests
 eventTests e = (event, valid e) ∷ []
 
+abbrev pub refused : ℕ → TrbAnswer
+refused n = record { refusal = n; trb = replicate 16 0 }
+
+abbrev pub accepted : List ℕ → TrbAnswer
+accepted trb = record { refusal = 0; trb = trb }
+
 unfoldable pub bytesAnswered : EventTrb → Bool → TrbAnswer
-bytesAnswered e c =
-    judge (eventTests e)
-    (λ n. record { refusal = n; trb = replicate 16 0 })
-    (record { refusal = 0; trb = eventBytes e c })
+bytesAnswered e c = judge (eventTests e) refused (accepted (eventBytes e c))
 
 -- ---- reading
 
@@ -130,6 +133,12 @@ reservedInCommandCompletion = (0, 0, 4) ∷ (3, 1, 9) ∷ (3, 16, 8) ∷ []
 
 abbrev pub reservedInPortStatusChange : List (ℕ × ℕ × ℕ)
 reservedInPortStatusChange = (0, 0, 24) ∷ (1, 0, 32) ∷ (2, 0, 24) ∷ (3, 1, 9) ∷ (3, 16, 16) ∷ []
+
+abbrev pub reservedIn : ℕ → List (ℕ × ℕ × ℕ)
+reservedIn t =
+    when (eqb t types.transferEvent) reservedInTransfer or
+    when (eqb t types.commandCompletionEvent) reservedInCommandCompletion or
+    reservedInPortStatusChange
 
 -- the completion code is bits 31:24 of dword 2; whether it is listed, and then which it is
 abbrev pub codeIn : List ℕ → Coded
@@ -184,24 +193,44 @@ eventOf trb =
     when (eqb t types.portStatusChangeEvent) (portStatusChangeAs trb) or
     unrecognized type t trb
 
--- ---- document 01's number of an answer, its TRB type or 0 for a refusal, and its values
-
-abbrev pub numberOfEvent : EventTrb → ℕ
-numberOfEvent (EventTrb.Transfer t) = types.transferEvent
-numberOfEvent (EventTrb.CommandCompletion t) = types.commandCompletionEvent
-numberOfEvent (EventTrb.PortStatusChange t) = types.portStatusChangeEvent
+-- ---- document 01's number of an answer, 0 where nothing is refused, and its values: the type, then the fields
 
 abbrev pub valuesOfEvent : EventTrb → List ℕ
 valuesOfEvent (EventTrb.Transfer t) =
-    t .«trb_pointer» ∷ t .«trb_transfer_length» ∷ numberOf (t .«completion_code») ∷ bit (t .«event_data») ∷ t .«endpoint_id» ∷ t .«slot_id» ∷ []
+    types.transferEvent ∷ t .«trb_pointer» ∷ t .«trb_transfer_length» ∷ numberOf (t .«completion_code») ∷ bit (t .«event_data»)
+    ∷ t .«endpoint_id» ∷ t .«slot_id» ∷ []
 valuesOfEvent (EventTrb.CommandCompletion t) =
-    t .«command_trb_pointer» ∷ t .«command_completion_parameter» ∷ numberOf (t .«completion_code») ∷ t .«slot_id» ∷ []
-valuesOfEvent (EventTrb.PortStatusChange t) = t .«port_id» ∷ []
+    types.commandCompletionEvent ∷ t .«command_trb_pointer» ∷ t .«command_completion_parameter» ∷ numberOf (t .«completion_code»)
+    ∷ t .«slot_id» ∷ []
+valuesOfEvent (EventTrb.PortStatusChange t) = types.portStatusChangeEvent ∷ t .«port_id» ∷ []
 
 abbrev pub numberOfVariant : EventVariant → ℕ
-numberOfVariant (EventVariant.Event e) = numberOfEvent e
-numberOfVariant (EventVariant.Unrecognized e) = 0
+numberOfVariant (EventVariant.Event e) = 0
+numberOfVariant (EventVariant.Unrecognized e) = e .number
 
 abbrev pub valuesOfVariant : EventVariant → List ℕ
 valuesOfVariant (EventVariant.Event e) = valuesOfEvent e
-valuesOfVariant (EventVariant.Unrecognized e) = e .number ∷ e .«trb_type» ∷ []
+valuesOfVariant (EventVariant.Unrecognized e) = e .«trb_type» ∷ []
+
+-- ---- the same from the TRB itself, in document 01's numbers; proofs/Shown.antt proves that every answer has these
+
+-- the refusals of the decoder, each given exactly when its test is the first that fails
+abbrev pub decoderTests : List ℕ → Tests
+decoderTests trb =
+    let t = typeOf trb in
+    (type, oneOf t (32 to 34)) ∷
+    (code, when (eqb t 34) (eqb (field trb 2 24 8) 1) or isListed (codeIn trb)) ∷
+    (reserved, clear trb (reservedIn t)) ∷ []
+
+-- the fields of a TRB that is not refused
+abbrev pub decoderFields : List ℕ → List ℕ
+decoderFields trb =
+    let t = typeOf trb in
+    let code = field trb 2 24 8 in
+    let slot = field trb 3 24 8 in
+    when (eqb t 32) (pointerOf trb ∷ field trb 2 0 24 ∷ code ∷ field trb 3 2 1 ∷ field trb 3 16 8 ∷ slot ∷ []) or
+    when (eqb t 33) (pointerOf trb ∷ field trb 2 0 24 ∷ code ∷ slot ∷ []) or
+    field trb 0 24 8 ∷ []
+
+abbrev pub decoderValues : List ℕ → List ℕ
+decoderValues trb = valuesShown (decoderTests trb) trb (decoderFields trb)

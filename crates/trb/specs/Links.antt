@@ -2,11 +2,11 @@
 -- dword 3 has toggle cycle in bit 1 and interrupt on completion in bit 5.
 use Prim.Native.Nat.{ℕ}
 use mathlib.Core.List.{List, [], _∷_}
-use mathlib.Core.Bool.{Bool, not, cond}
+use mathlib.Core.Bool.{not}
 use lib.Dec.{eqb}
 use Rattle.guest.specs.Fields.{field}
 use Rattle.codes.specs.Types.{link}
-use Rattle.trb.specs.Trb.{typeOf, alignedOf, flagOf, when, _or_}
+use Rattle.trb.specs.Trb.{typeOf, alignedOf, flagOf, bit, when, _or_}
 use Rattle.trb.specs.declared.link.LinkTrb.{LinkTrb}
 use Rattle.trb.specs.declared.link.LinkOrOther.{LinkOrOther}
 use Rattle.trb.specs.declared.link.LinkOrOther.the-variants.{Link, Other}
@@ -23,7 +23,22 @@ linkTrb trb =
 unfoldable pub linkOf : List ℕ → LinkOrOther
 linkOf trb = when (eqb (typeOf trb) link) (Link (linkTrb trb)) or Other
 
--- document 01's number of an answer, 6 for a Link and 0 for any other TRB, and its values
+-- ---- document 01's number of an answer, 0 since nothing is refused, and its values: the type, then the fields
+
 abbrev pub numberOf : LinkOrOther → ℕ
-numberOf (Link l) = link
+numberOf (Link l) = 0
 numberOf Other = 0
+
+abbrev pub valuesOf : LinkOrOther → List ℕ
+valuesOf (Link l) =
+    link ∷ l .«ring_segment_pointer» ∷ bit (l .«pointer_bits_cleared») ∷ bit (l .«toggle_cycle»)
+    ∷ bit (l .«interrupt_on_completion») ∷ []
+valuesOf Other = []
+
+-- ---- the same from the TRB itself, in document 01's numbers; proofs/Shown.antt proves that every answer has these
+
+abbrev pub linkValues : List ℕ → List ℕ
+linkValues trb =
+    when (eqb (typeOf trb) 6)
+    (6 ∷ alignedOf trb ∷ bit (not (eqb (field trb 0 0 4) 0)) ∷ field trb 3 1 1 ∷ field trb 3 5 1 ∷ []) or
+    []

@@ -1,13 +1,14 @@
 -- Transfer TRBs, xHCI 6.4.1 and 6.4.4.2. Dword 3 has interrupt on short packet in bit 2, chain in bit 4, interrupt on completion in
 -- bit 5, immediate data in bit 6 and the direction in bit 16; dword 2 has the transfer length in bits 16:0.
 use Prim.Native.Nat.{ℕ}
-use mathlib.Core.List.{List, [], _∷_}
+use mathlib.Core.List.{List, [], _∷_, _++_}
 use lib.ListN.{replicate}
 use lib.Dec.{eqb}
 use Rattle.guest.specs.Refusals.{type}
+use Rattle.guest.specs.Judge.{Tests}
 use Rattle.guest.specs.Fields.{field}
 use Rattle.codes.specs.Types as types
-use Rattle.trb.specs.Trb.{typeOf, pointerOf, flagOf, bit, when, _or_}
+use Rattle.trb.specs.Trb.{typeOf, pointerOf, flagOf, bit, when, _or_, _to_, oneOf, valuesShown}
 use Rattle.trb.specs.declared.transfer.NormalTrb.{NormalTrb}
 use Rattle.trb.specs.declared.transfer.SetupStageTrb.{SetupStageTrb}
 use Rattle.trb.specs.declared.transfer.DataStageTrb.{DataStageTrb}
@@ -87,29 +88,58 @@ transferOf trb =
     when (eqb t types.noOp) (answered (TransferTrbVariant.NoOp (noOpTrb trb))) or
     unrecognized type t trb
 
--- ---- document 01's number of an answer, its TRB type or 0 for a refusal, and its values
+-- ---- document 01's number of an answer, 0 where nothing is refused, and its values: the type, then the fields
 
 abbrev pub numberOf : TransferTrbVariant → ℕ
-numberOf (TransferTrbVariant.Normal d) = types.normal
-numberOf (TransferTrbVariant.SetupStage d) = types.setupStage
-numberOf (TransferTrbVariant.DataStage d) = types.dataStage
-numberOf (TransferTrbVariant.StatusStage d) = types.statusStage
-numberOf TransferTrbVariant.Isoch = types.isoch
-numberOf (TransferTrbVariant.EventData d) = types.eventData
-numberOf (TransferTrbVariant.NoOp d) = types.noOp
-numberOf (TransferTrbVariant.Unrecognized e) = 0
+numberOf (TransferTrbVariant.Normal d) = 0
+numberOf (TransferTrbVariant.SetupStage d) = 0
+numberOf (TransferTrbVariant.DataStage d) = 0
+numberOf (TransferTrbVariant.StatusStage d) = 0
+numberOf TransferTrbVariant.Isoch = 0
+numberOf (TransferTrbVariant.EventData d) = 0
+numberOf (TransferTrbVariant.NoOp d) = 0
+numberOf (TransferTrbVariant.Unrecognized e) = e .number
 
 abbrev pub valuesOf : TransferTrbVariant → List ℕ
 valuesOf (TransferTrbVariant.Normal d) =
-    d .«data_pointer» ∷ d .«transfer_length» ∷ bit (d .«interrupt_on_short») ∷ bit (d .chain) ∷ bit (d .«interrupt_on_completion»)
-    ∷ bit (d .«immediate_data») ∷ []
+    types.normal ∷ d .«data_pointer» ∷ d .«transfer_length» ∷ bit (d .«interrupt_on_short») ∷ bit (d .chain)
+    ∷ bit (d .«interrupt_on_completion») ∷ bit (d .«immediate_data») ∷ []
 valuesOf (TransferTrbVariant.SetupStage d) =
-    d .«request_type» ∷ d .request ∷ d .value ∷ d .index ∷ d .length ∷ bit (d .«interrupt_on_completion») ∷ []
+    types.setupStage ∷ d .«request_type» ∷ d .request ∷ d .value ∷ d .index ∷ d .length ∷ bit (d .«interrupt_on_completion») ∷ []
 valuesOf (TransferTrbVariant.DataStage d) =
-    d .«data_pointer» ∷ d .«transfer_length» ∷ bit (d .«interrupt_on_short») ∷ bit (d .chain) ∷ bit (d .«interrupt_on_completion»)
-    ∷ bit (d .«immediate_data») ∷ bit (d .direction) ∷ []
-valuesOf (TransferTrbVariant.StatusStage d) = bit (d .chain) ∷ bit (d .«interrupt_on_completion») ∷ bit (d .direction) ∷ []
-valuesOf TransferTrbVariant.Isoch = []
-valuesOf (TransferTrbVariant.EventData d) = d .«event_data» ∷ bit (d .chain) ∷ bit (d .«interrupt_on_completion») ∷ []
-valuesOf (TransferTrbVariant.NoOp d) = bit (d .chain) ∷ bit (d .«interrupt_on_completion») ∷ []
-valuesOf (TransferTrbVariant.Unrecognized e) = e .number ∷ e .«trb_type» ∷ []
+    types.dataStage ∷ d .«data_pointer» ∷ d .«transfer_length» ∷ bit (d .«interrupt_on_short») ∷ bit (d .chain)
+    ∷ bit (d .«interrupt_on_completion») ∷ bit (d .«immediate_data») ∷ bit (d .direction) ∷ []
+valuesOf (TransferTrbVariant.StatusStage d) =
+    types.statusStage ∷ bit (d .chain) ∷ bit (d .«interrupt_on_completion») ∷ bit (d .direction) ∷ []
+valuesOf TransferTrbVariant.Isoch = types.isoch ∷ []
+valuesOf (TransferTrbVariant.EventData d) =
+    types.eventData ∷ d .«event_data» ∷ bit (d .chain) ∷ bit (d .«interrupt_on_completion») ∷ []
+valuesOf (TransferTrbVariant.NoOp d) = types.noOp ∷ bit (d .chain) ∷ bit (d .«interrupt_on_completion») ∷ []
+valuesOf (TransferTrbVariant.Unrecognized e) = e .«trb_type» ∷ []
+
+-- ---- the same from the TRB itself, in document 01's numbers; proofs/Shown.antt proves that every answer has these
+
+-- the refusal, given exactly when its test fails
+abbrev pub transferTests : List ℕ → Tests
+transferTests trb = (type, oneOf (typeOf trb) (1 to 5 ++ 7 to 8)) ∷ []
+
+-- the fields of a TRB that is not refused
+abbrev pub transferFields : List ℕ → List ℕ
+transferFields trb =
+    let t = typeOf trb in
+    let length = field trb 2 0 17 in
+    let short = field trb 3 2 1 in
+    let chain = field trb 3 4 1 in
+    let completion = field trb 3 5 1 in
+    let immediate = field trb 3 6 1 in
+    let direction = field trb 3 16 1 in
+    when (eqb t 1) (pointerOf trb ∷ length ∷ short ∷ chain ∷ completion ∷ immediate ∷ []) or
+    when (eqb t 2) (field trb 0 0 8 ∷ field trb 0 8 8 ∷ field trb 0 16 16 ∷ field trb 1 0 16 ∷ field trb 1 16 16 ∷ completion ∷ []) or
+    when (eqb t 3) (pointerOf trb ∷ length ∷ short ∷ chain ∷ completion ∷ immediate ∷ direction ∷ []) or
+    when (eqb t 4) (chain ∷ completion ∷ direction ∷ []) or
+    when (eqb t 7) (pointerOf trb ∷ chain ∷ completion ∷ []) or
+    when (eqb t 8) (chain ∷ completion ∷ []) or
+    []
+
+abbrev pub transferValues : List ℕ → List ℕ
+transferValues trb = valuesShown (transferTests trb) trb (transferFields trb)

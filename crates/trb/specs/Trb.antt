@@ -1,8 +1,11 @@
--- What the TRBs share (xHCI 6.4): fields by dword, low bit and width; and a definition by rows.
-use Prim.Native.Nat.{ℕ, _+_, _*_, _^_}
-use mathlib.Core.List.{List}
-use mathlib.Core.Bool.{Bool, cond}
+-- What the TRBs share (xHCI 6.4): fields by dword, low bit and width; a definition by rows; and what an answer shows.
+use Prim.Native.Nat.{ℕ, zero, suc, _+_, _-_, _*_, _^_}
+use mathlib.Core.List.{List, [], _∷_}
+use mathlib.Core.Bool.{Bool, false, cond, _||_}
 use lib.Dec.{eqb}
+use lib.ListN.{replicate}
+use Rattle.guest.specs.Refusals.{optional, type}
+use Rattle.guest.specs.Judge.{Tests, judge}
 use Rattle.guest.specs.Fields.{dword, field}
 
 -- the bit of a dword
@@ -34,3 +37,31 @@ when t x y = cond t x y
 -- a flag as a number
 abbrev pub bit : Bool → ℕ
 bit b = cond b 1 0
+
+-- ---- numbers in lists: the n from lo up, those from lo to hi, and whether a number is in a list
+
+abbrev pub upward : ℕ → ℕ → List ℕ
+upward lo zero = []
+upward lo (suc n) = lo ∷ upward (lo + 1) n
+
+infix 70 _to_
+abbrev pub _to_ : ℕ → ℕ → List ℕ
+lo to hi = upward lo (hi + 1 - lo)
+
+abbrev pub oneOf : ℕ → List ℕ → Bool
+oneOf n [] = false
+oneOf n (k ∷ ks) = eqb n k || oneOf n ks
+
+-- ---- what a parser's answer shows, by the tests of its refusals
+
+-- the type that stands beside a refusal's number
+abbrev pub typeBeside : ℕ → List ℕ → ℕ
+typeBeside number trb = cond (oneOf number (optional ∷ type ∷ [])) (typeOf trb) 0
+
+-- document 01's values: the type and the fields; for a refusal, the type beside it
+abbrev pub valuesShown : Tests → List ℕ → List ℕ → List ℕ
+valuesShown tests trb fields = judge tests (λ number. typeBeside number trb ∷ []) (typeOf trb ∷ fields)
+
+-- the raw bytes: sixteen zeros; for a refusal, the bytes that were given
+abbrev pub rawShown : Tests → List ℕ → List ℕ
+rawShown tests trb = judge tests (λ number. trb) (replicate 16 0)

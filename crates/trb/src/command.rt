@@ -207,11 +207,10 @@ impl CommandTrbVariant {
             trb_types::STOP_ENDPOINT_COMMAND => stop_endpoint(raw),
             trb_types::SET_TR_DEQUEUE_POINTER_COMMAND => set_tr_dequeue_pointer(raw),
             trb_types::RESET_DEVICE_COMMAND => reset_device(raw),
-            trb_types::FORCE_EVENT_COMMAND..=trb_types::GET_PORT_BANDWIDTH_COMMAND => refuse(
-                refusal::OPTIONAL,
-                trb_type,
-                raw,
-            ),
+            trb_types::FORCE_EVENT_COMMAND
+            | trb_types::NEGOTIATE_BANDWIDTH_COMMAND
+            | trb_types::SET_LATENCY_TOLERANCE_VALUE_COMMAND
+            | trb_types::GET_PORT_BANDWIDTH_COMMAND => refuse(refusal::OPTIONAL, trb_type, raw),
             trb_types::FORCE_HEADER_COMMAND => answer(CommandTrbVariant::ForceHeader),
             trb_types::NO_OP_COMMAND => answer(CommandTrbVariant::NoOp),
             _ => refuse(refusal::TYPE, trb_type, raw),

@@ -9,6 +9,7 @@ ghost use mathlib.Core.Path.{_≡_};
 ghost use mathlib.Core.Bool.{Bool};
 ghost use Prim.Native.Nat.{_+_, _*_, _/_, _%_, _<_, _≤_};
 ghost use lib.Dec.{eqb};
+ghost use Rattle.guest.specs.Memory.{le};
 ghost use Rattle.guest.specs.Fields.{bits, dword, field};
 ghost use Rattle.trb.specs.Trb.{typeOf, cycleOf, pointerOf, alignedOf};
 
@@ -32,7 +33,7 @@ pub fn cycle_bit(raw: RawTrbBuffer) -> bool
     flag(raw, 12, 0)
 }
 
-// What the modules read of the bytes, each as the field of a dword that it is.
+// What the modules read of the bytes, each but `two` as the field of a dword that it is.
 
 // Bit `lo` of byte `at`.
 fn flag(raw: RawTrbBuffer, at: usize, lo: u8) -> bool
@@ -67,10 +68,10 @@ fn wide(x: u8) -> u16
     x as u16
 }
 
-// The number of two bytes from byte `at` on, which stand in one dword.
+// The number of two bytes from byte `at` on.
 fn two(raw: RawTrbBuffer, at: usize) -> u16
-    requires { ⌜ (at < 16) × (at % 4 ≤ 2) ⌝ }
-    ensures { λ r. ⌜ r ≡ bits (dword raw (at / 4)) (8 * (at % 4)) 16 ⌝ }
+    requires { ⌜ at + 2 ≤ 16 ⌝ }
+    ensures { λ r. ⌜ r ≡ le raw at 2 ⌝ }
 {
     wide(raw[at]) + 256 * wide(raw[at + 1])
 }

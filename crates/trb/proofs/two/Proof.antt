@@ -1,11 +1,12 @@
--- Two bytes of one dword. Assumes nothing.
+-- The number of two bytes, written out. Assumes nothing.
 use native.Mathlib.Omega.{arith}
-use Rattle.trb.proofs.Raw.{two-field}
+use Rattle.guest.specs.Memory.{le}
 use borrow.Author.Needs.{needs}
 use Rattle.trb.proofs.two.Statement.{statement}
 use Rattle.trb.proofs.two.Tie as tie
 
 pub two-spec : {M : Type 1} → statement M
+unfolding le
 two-spec =
     tie.close
     (tie.spec
@@ -16,4 +17,4 @@ two-spec =
     (λ c κs. search needs)
     (λ c. search needs)
     (λ c. search needs)
-    (λ c. let a = c .before .before .args in omega (arith, two-field (a .t1) (λ i. search needs) (a .at) (omega arith))))
+    (λ c. omega arith))

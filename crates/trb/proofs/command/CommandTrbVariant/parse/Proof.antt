@@ -1,7 +1,12 @@
 -- At each arm the type that it matched picks the row. Assumes nothing.
-use mathlib.Core.Logic.{⊎-elim}
+use mathlib.Core.Path.{_≡_}
+use mathlib.Core.Bool.{true, false}
+use mathlib.Core.Logic.{_⊎_, inl, inr, ⊎-elim}
+use native.Mathlib.Omega.{arith}
 use Rattle.guest.proofs.Tests.{tests}
+use Rattle.trb.specs.Trb.{_to_, oneOf}
 use Rattle.trb.specs.Commands.{commandOf}
+use Rattle.trb.proofs.Rows.{past, among, apart}
 use borrow.Author.Needs.{needs}
 use Rattle.trb.proofs.command.CommandTrbVariant.parse.Statement.{statement}
 use Rattle.trb.proofs.command.CommandTrbVariant.parse.Tie as tie
@@ -36,5 +41,13 @@ parse-spec =
     (λ c. rw (← c .before .before .trb-type .ensures, c .before .match .keys9) (c .reset-device .ensures))
     (λ c. rw (← c .before .before .trb-type .ensures, c .before .match .keys10) (c .answer2 .ensures))
     (λ c. rw (← c .before .before .trb-type .ensures, c .before .match .keys11) (c .answer3 .ensures))
-    (λ c. rw (c .refuse .ensures, ← c .before .before .before .before .trb-type .ensures) (search tests))
-    (λ c. rw (c .refuse2 .ensures, ← c .before .before .before .trb-type .ensures) (⊎-elim (λ w. search tests) (λ w. search tests) (c .before .if1 .came))))
+    (λ c.
+    let m = c .before .before .before in
+    let t = m .before .trb-type .result in
+    let o : oneOf t (18 to 21) ≡ true = among 4 t 18 (past t 9 9 (m .match .rest .0 .0) (c .before .before .if1 .left)) (c .before .if2 .taken) in
+    rw (c .refuse .ensures, ← m .before .trb-type .ensures) (search (tests, o)))
+    (λ c.
+    let m = c .before .before in
+    let t = m .before .trb-type .result in
+    let o : oneOf t (18 to 21) ≡ false = apart 4 t 18 (⊎-elim (λ h. inl (omega arith)) (λ h. inr (omega arith)) (c .before .if1 .came)) in
+    rw (c .refuse2 .ensures, ← m .before .trb-type .ensures) (search (tests, o))))
