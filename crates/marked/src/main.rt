@@ -1,6 +1,9 @@
 // Runs the marked cases of document 01 and writes what comes out. The file stdout has what the document says.
 use codes::CompletionCode;
+use event_ring::EventRing;
 use libc::STDOUT_FILENO;
+use linked_ring::Answer;
+use linked_ring::LinkedRing;
 use trb::RawTrbBuffer;
 use trb::TrbParseError;
 use trb::command::CommandTrbVariant;
@@ -116,7 +119,95 @@ fn parsers() {
     command(b"P4", trb_of(0, 18));
 }
 
+// A Link at address 0 that points to itself, fresh to a reader with state 1, with these bits in byte 12.
+fn chase(name: &[u8], bits: u8) {
+    let mut mem = trb_of(0, 6);
+    mem[12] = bits;
+    let chase = LinkedRing::new(0, true).next_trb(&mem);
+    let answer = chase.answer;
+    text(name);
+    match answer {
+        Answer::Trb => text(b" a TRB"),
+        Answer::NothingNew => text(b" nothing new"),
+        Answer::TooManyLinks => text(b" too many links"),
+        Answer::Refused(n) => number(b" refusal ", wide(n)),
+    }
+    let notes = chase.notes;
+    let ring = chase.ring;
+    number(b", followed ", notes.links as u64);
+    number(b", state ", ring.cycle as u64);
+    text(b"\n");
+}
+
+// Adds a port's event to the ring and writes what came of it; where it was accepted, what cycle bit stands in the slot.
+fn add(name: &[u8], mem: &mut [u8], ring: EventRing, report: u64) -> EventRing {
+    let change = PortStatusChangeEventTrbData { port_id: 3 };
+    let moved = ring.add(mem, EventTrb::PortStatusChange(change), report);
+    text(name);
+    hex(b" report 0x", report);
+    if moved.refusal != 0 {
+        number(b": refusal ", wide(moved.refusal));
+    } else {
+        let slot = guest::read_trb(mem, ring.place);
+        let trb = slot.trb;
+        hex(b": accepted at 0x", ring.place);
+        number(b" with cycle ", trb::cycle_bit(trb) as u64);
+    }
+    text(b"\n");
+    moved.ring
+}
+
+// A table at address 0 of one entry: base 0x100, of so many slots.
+fn one_segment(slots: u8) -> [u8; 0x120] {
+    let mut mem = [0u8; 0x120];
+    mem[1] = 1;
+    mem[8] = slots;
+    mem
+}
+
+fn configured(mem: &[u8], entries: u16) -> EventRing {
+    let moved = EventRing::new().configure(mem, 0, entries);
+    moved.ring
+}
+
+fn r1() {
+    let mut mem = one_segment(2);
+    let mut ring = configured(&mem, 1);
+    ring = add(b"R1", &mut mem, ring, 0x100);
+    ring = add(b"R1", &mut mem, ring, 0x100);
+    ring = add(b"R1", &mut mem, ring, 0x110);
+    ring = add(b"R1", &mut mem, ring, 0x110);
+    add(b"R1", &mut mem, ring, 0x100);
+}
+
+fn r2() {
+    let mut mem = one_segment(1);
+    let mut ring = configured(&mem, 1);
+    ring = add(b"R2", &mut mem, ring, 0x100);
+    add(b"R2", &mut mem, ring, 0x100);
+}
+
+// Two entries of one slot each, at 0x100 and 0x140.
+fn r3() {
+    let mut mem = [0u8; 0x150];
+    mem[1] = 1;
+    mem[8] = 1;
+    mem[16] = 0x40;
+    mem[17] = 1;
+    mem[24] = 1;
+    let mut ring = configured(&mem, 2);
+    ring = add(b"R3", &mut mem, ring, 0x100);
+    ring = add(b"R3", &mut mem, ring, 0x100);
+    ring = add(b"R3", &mut mem, ring, 0x140);
+    add(b"R3", &mut mem, ring, 0x140);
+}
+
 fn main() {
     events();
     parsers();
+    chase(b"L1", 0x01);
+    chase(b"L2", 0x03);
+    r1();
+    r2();
+    r3();
 }
