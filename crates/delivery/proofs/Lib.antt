@@ -1,0 +1,6 @@
+pub mod Queue
+pub mod Memory
+pub mod Walk
+pub mod Sound
+pub mod Readers
+pub mod Demand3

@@ -1,0 +1,146 @@
+-- The ring's operations at a position of the walk, in a memory that keeps the table: nothing is refused but a full ring and an event that is
+-- not valid, and a step leads to the next position. Assumes nothing.
+use Prim.Native.Nat.{ℕ, suc, _+_, _*_, _-_, _%_, _≤_, _<_, _^_}
+use mathlib.Core.Path.{_≡_, refl, sym, ap, _∙_}
+use mathlib.Core.Bool.{Bool, true, false, not, cond}
+use mathlib.Core.List.{List, [], _∷_}
+use native.Mathlib.Omega.{arith}
+use native.Mathlib.Decide.{ℕ-discrete}
+use native.Mathlib.Nat.{add-zero}
+use lib.ListN.{length}
+use lib.Dec.{eqb}
+use borrow.Author.Tests.{eq-eqb, ne-eqb, le-leb, lt-ltb}
+use Rattle.guest.specs.Judge.{Tests, judge}
+use Rattle.guest.specs.Memory.{Memory, inside}
+use Prim.{tt}
+use Rattle.guest.proofs.Judge.{Passes}
+use Rattle.guest.proofs.Memory.{inside-le, inside-less, inside-add}
+use Rattle.trb.specs.Events.{valid}
+use Rattle.trb.specs.declared.event.EventTrb.{EventTrb}
+use Rattle.event_ring.specs.Ring.{entryAt, entryOf, goodEntry, countOk, okState, last, nextIndex, entered, along, nextState, entryTests, nextTests, full, addTests, configureTests, freshOf, takeTests}
+use Rattle.event_ring.specs.declared.Entry.{Entry}
+use Rattle.event_ring.specs.declared.EventRing.{EventRing}
+use Rattle.event_ring.proofs.Laws.{judge-then}
+use Rattle.delivery.specs.Demand3.{Setup, base, size, Premises}
+use Rattle.delivery.proofs.Memory.{Same, entry-same}
+use Rattle.delivery.proofs.Walk.{walk, at, on, good-at, some}
+
+-- ---- a ring in order: its state keeps its limits, its slot is inside, and the next entry is as it must be
+
+pub record Sound (m : Memory) (r : EventRing) : Type 0 where
+  pub state : okState r ≡ true
+  pub slot : inside m (r .place) 16 ≡ true
+  pub next : Passes (entryTests m r)
+
+next-passes : (m : Memory) (r : EventRing) → Passes (entryTests m r) → Passes (nextTests m r)
+unfolding nextTests
+next-passes m r p = go (last r)
+  where
+    go : (b : Bool) → Passes (cond b (entryTests m r) [])
+    go true = p
+    go false = tt
+
+module _ (m : Memory) (r : EventRing) (S : Sound m r) where
+  pub add-judged : (e : EventTrb) (report : ℕ) → report % 16 ≡ 0 → valid e ≡ true → {B : Type 0} (refuse : ℕ → B) (b : B)
+      → judge (addTests m r e report) refuse b ≡ cond (full m r report) (refuse 7) b
+  unfolding judge
+  add-judged e report a v refuse b =
+      rw (v, S .state, eq-eqb (report % 16) 0 a, S .slot)
+      (judge-then (nextTests m r) ((7, not (full m r report)) ∷ []) refuse b (next-passes m r (S .next)) ∙ last-test (full m r report))
+    where
+      last-test : (f : Bool) → judge ((7, not f) ∷ []) refuse b ≡ cond f (refuse 7) b
+      last-test true = refl
+      last-test false = refl
+
+  pub take-passes : Passes (takeTests m r)
+  take-passes = (S .state, (S .slot, go (freshOf m r)))
+    where
+      go : (f : Bool) → Passes (cond f (nextTests m r) [])
+      go true = next-passes m r (S .next)
+      go false = tt
+
+pub add-invalid : (m : Memory) (r : EventRing) (e : EventTrb) (report : ℕ) → valid e ≡ false → {B : Type 0} (refuse : ℕ → B) (b : B)
+    → judge (addTests m r e report) refuse b ≡ refuse 8
+unfolding judge
+add-invalid m r e report v refuse b = rw v
+
+-- ---- memories of the set-up's length, whose table is the set-up's
+
+pub record Kept (s : Setup) (m : Memory) : Type 0 where
+  pub len : length m ≡ length (s .mem)
+  pub table : Same (s .mem) m (s .table) (16 * s .entries)
+
+inside-same : (m m′ : Memory) (a k : ℕ) → length m′ ≡ length m → inside m a k ≡ true → inside m′ a k ≡ true
+unfolding inside
+inside-same m m′ a k e h = rw e h
+
+good-same : (m m′ : Memory) (e : Entry) → length m′ ≡ length m → goodEntry m e ≡ true → goodEntry m′ e ≡ true
+unfolding goodEntry inside
+good-same m m′ e l h = rw l h
+
+module _ (s : Setup) (W : Premises s) where
+  -- configuring accepts the set-up
+  pub configures : Passes (configureTests (s .mem) (s .table) (s .entries))
+  configures = (
+    eq-eqb (s .table % 64) 0 (W .aligned),
+    (
+      W .counted,
+      (
+        W .within,
+        (rw (← add-zero (s .table)) (W .good 0 (some s W)), tt),
+      ),
+    ),
+  )
+
+module _ (s : Setup) (W : Premises s) (m : Memory) (K : Kept s m) where
+  pub table-entry : (j : ℕ) → j < s .entries → entryOf m (s .table) j ≡ entryOf (s .mem) (s .table) j
+  table-entry j h = entry-same (s .mem) m (s .table + 16 * j) (λ x l u. K .table x (omega arith) (omega arith))
+
+  next-index : (j i : ℕ) (c : Bool) → j < s .entries → nextIndex (at s j i c) < s .entries
+  unfolding at nextIndex
+  next-index j i c h = go (ℕ-discrete (j + 1) (s .entries))
+    where
+      go : Dec (j + 1 ≡ s .entries) → cond (eqb (j + 1) (s .entries)) 0 (j + 1) < s .entries
+      go (yes e) = rw (eq-eqb (j + 1) (s .entries) e) (omega arith)
+      go (no n) = rw (ne-eqb (j + 1) (s .entries) n) (omega arith)
+
+  -- a part of what is inside
+  inside-part : (a k b : ℕ) → inside (s .mem) a k ≡ true → b + 16 ≤ k → inside m (a + b) 16 ≡ true
+  inside-part a k b h n =
+      inside-same (s .mem) m (a + b) 16 (K .len) (inside-add (s .mem) a b 16 ∙ inside-less (s .mem) a k (b + 16) h n)
+
+  sound-at : (j i : ℕ) (c : Bool) → j < s .entries → i < size s j → Sound m (at s j i c)
+  unfolding at okState
+  sound-at j i c jn ij =
+      let g = good-at s W j jn in
+      let k = nextIndex (at s j i c) in
+      let kn : k < s .entries = next-index j i c jn in
+      record {
+        state =
+            rw (
+              W .counted,
+              lt-ltb j (s .entries) jn,
+              le-leb 1 (size s j - i) (omega arith),
+              le-leb (size s j - i) 4096 (omega (arith, g .few)),
+              eq-eqb (s .table % 64) 0 (W .aligned),
+              eq-eqb ((base s j + 16 * i) % 16) 0 (omega (arith, g .aligned)),
+            );
+        slot = inside-part (base s j) (16 * size s j) (16 * i) (g .memory) (omega arith);
+        next = (
+          inside-part (s .table) (16 * s .entries) (16 * k) (W .within) (omega arith),
+          (rw (table-entry k kn) (good-same (s .mem) m (entryOf (s .mem) (s .table) k) (K .len) (W .good k kn)), tt),
+        );
+      }
+
+  next-at : (j i : ℕ) (c : Bool) → j < s .entries → nextState m (at s j i c) ≡ nextState (s .mem) (at s j i c)
+  unfolding at nextState
+  next-at j i c h =
+      ap (λ (e : Entry). cond (last (at s j i c)) (entered (at s j i c) (nextIndex (at s j i c)) e) (along (at s j i c)))
+      (table-entry (nextIndex (at s j i c)) (next-index j i c h))
+
+  pub sound : (p : ℕ) → Sound m (walk s p)
+  sound p = let o = on s W p in rw (o .is) (sound-at (o .seg) (o .off) (o .cyc) (o .seg<) (o .off<))
+
+  pub next-walk : (p : ℕ) → nextState m (walk s p) ≡ walk s (suc p)
+  unfolding walk
+  next-walk p = let o = on s W p in rw (o .is) (next-at (o .seg) (o .off) (o .cyc) (o .seg<))

@@ -1,0 +1,3 @@
+pub mod Plain
+pub mod World
+pub mod Demand3
