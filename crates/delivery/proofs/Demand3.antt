@@ -19,10 +19,10 @@ use Rattle.guest.specs.Memory.{Memory, trbAt, write}
 use Rattle.guest.proofs.Judge.{judge-passes}
 use Rattle.guest.proofs.Memory.{write-length}
 use Rattle.trb.specs.Trb.{cycleOf}
-use Rattle.trb.specs.Events.{valid, eventBytes, eventOf}
+use Rattle.trb.specs.Events.{valid, Typed, eventBytes, eventOf}
 use Rattle.trb.specs.declared.event.EventTrb.{EventTrb}
 use Rattle.trb.specs.declared.event.ParsedEvent.{ParsedEvent}
-use Rattle.trb.proofs.OneEncoding.{Typed, reads-back, cycle-back, bytes-length}
+use Rattle.trb.proofs.OneEncoding.{reads-back, cycle-back, bytes-length}
 use Rattle.event_ring.specs.Ring.{nextState, full, refusedAt, movedTo, started, configureTests, configured, added, addedMemory, readerConfigured}
 use Rattle.event_ring.specs.declared.EventRing.{EventRing}
 use Rattle.event_ring.specs.declared.Moved.{Moved}

@@ -4,3 +4,5 @@ pub mod Walk
 pub mod Sound
 pub mod Readers
 pub mod Demand3
+pub mod Examples
+pub mod Strength

@@ -7,7 +7,7 @@ use mathlib.Core.Bool.{true}
 use mathlib.Core.List.{List, [], _∷_}
 use lib.ListN.{length}
 use Rattle.guest.specs.Memory.{Memory, byte, inside}
-use Rattle.trb.proofs.OneEncoding.{Typed}
+use Rattle.trb.specs.Events.{Typed}
 use Rattle.event_ring.specs.Ring.{entryOf, goodEntry, countOk, configured, readerConfigured}
 use Rattle.event_ring.specs.declared.EventRing.{EventRing}
 use Rattle.event_ring.specs.declared.EventReader.{EventReader}

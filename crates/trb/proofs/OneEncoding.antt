@@ -24,7 +24,7 @@ use Rattle.codes.specs.declared.CompletionCode.{CompletionCode}
 use Rattle.codes.specs.declared.Coded.{Coded}
 use Rattle.codes.proofs.Codes.{code-of-number, number-lt}
 use Rattle.trb.specs.Trb.{typeOf, cycleOf, pointerOf, flagOf, bit}
-use Rattle.trb.specs.Events.{pack, inCode, ofCode, inTransfer, ofTransfer, transferDwords, inCommandCompletion, ofCommandCompletion, commandCompletionDwords, inPortStatusChange, ofPortStatusChange, portStatusChangeDwords, eventDwords, eventBytes, valid, refused, accepted, bytesAnswered, clear, reservedInTransfer, reservedInCommandCompletion, reservedInPortStatusChange, codeIn, isListed, listedIn, readTests, answered, unrecognized, transferAs, commandCompletionAs, portStatusChangeAs, eventOf}
+use Rattle.trb.specs.Events.{pack, inCode, ofCode, inTransfer, ofTransfer, transferDwords, inCommandCompletion, ofCommandCompletion, commandCompletionDwords, inPortStatusChange, ofPortStatusChange, portStatusChangeDwords, eventDwords, eventBytes, valid, refused, accepted, bytesAnswered, clear, reservedInTransfer, reservedInCommandCompletion, reservedInPortStatusChange, codeIn, isListed, listedIn, readTests, answered, unrecognized, transferAs, commandCompletionAs, portStatusChangeAs, eventOf, Typed}
 use Rattle.trb.specs.declared.event.TransferEventTrbData.{TransferEventTrbData}
 use Rattle.trb.specs.declared.event.CommandCompletionEventTrbData.{CommandCompletionEventTrbData}
 use Rattle.trb.specs.declared.event.PortStatusChangeEventTrbData.{PortStatusChangeEventTrbData}
@@ -55,12 +55,6 @@ zeros trb [] h = tt
 zeros trb ((k, lo, w) ∷ fs) h =
     let p = both (eqb (field trb k lo w) 0) (clear trb fs) h in
     (eqb-true (field trb k lo w) 0 (p .0), zeros trb fs (p .1))
-
--- the fields are of their types
-abbrev pub Typed : EventTrb → Type 0
-Typed (EventTrb.Transfer t) = (t .«trb_pointer» < 2 ^ 64) × (t .«endpoint_id» < 2 ^ 8) × (t .«slot_id» < 2 ^ 8)
-Typed (EventTrb.CommandCompletion t) = (t .«command_trb_pointer» < 2 ^ 64) × (t .«slot_id» < 2 ^ 8)
-Typed (EventTrb.PortStatusChange t) = t .«port_id» < 2 ^ 8
 
 -- ---- what is read was written
 

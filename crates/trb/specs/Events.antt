@@ -1,5 +1,5 @@
 -- Event TRBs, xHCI 6.4.2: the sixteen bytes of an event, and the event of sixteen bytes.
-use Prim.Native.Nat.{ℕ, _+_, _*_, _^_}
+use Prim.Native.Nat.{ℕ, _+_, _*_, _^_, _<_}
 use mathlib.Core.List.{List, [], _∷_}
 use mathlib.Core.Bool.{Bool, true, false, _&&_}
 use lib.ListN.{replicate}
@@ -88,6 +88,12 @@ unfoldable pub eventDwords : EventTrb → Bool → Dwords
 eventDwords (EventTrb.Transfer t) c = transferDwords t c
 eventDwords (EventTrb.CommandCompletion t) c = commandCompletionDwords t c
 eventDwords (EventTrb.PortStatusChange t) c = portStatusChangeDwords t c
+
+-- the fields are of their types in the code: 64 and 8 bits (the 24-bit ones are what `valid` looks at)
+abbrev pub Typed : EventTrb → Type 0
+Typed (EventTrb.Transfer t) = (t .«trb_pointer» < 2 ^ 64) × (t .«endpoint_id» < 2 ^ 8) × (t .«slot_id» < 2 ^ 8)
+Typed (EventTrb.CommandCompletion t) = (t .«command_trb_pointer» < 2 ^ 64) × (t .«slot_id» < 2 ^ 8)
+Typed (EventTrb.PortStatusChange t) = t .«port_id» < 2 ^ 8
 
 -- the sixteen bytes of an event with the cycle bit c
 abbrev pub eventBytes : EventTrb → Bool → List ℕ

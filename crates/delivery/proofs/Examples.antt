@@ -1,0 +1,99 @@
+-- The premises can be met: a table of one segment and one of two, built as bytes. Assumes nothing.
+use Prim.Native.Nat.{ℕ, zero, suc, _+_, _*_, _-_, _<_}
+use mathlib.Core.Path.{_≡_, refl, _∙_, subst}
+use mathlib.Core.Logic.{_≢_, inl, inr}
+use mathlib.Core.List.{List, [], _∷_, _++_}
+use mathlib.Core.Bool.{true}
+use native.Mathlib.Omega.{arith}
+use lib.ListN.{length, getD, replicate, getD-replicate}
+use lib.Seq.{getD-append-add}
+use Rattle.guest.specs.Memory.{Memory, byte, inside, le}
+use Rattle.event_ring.specs.Ring.{empty, entryAt, goodEntry, readerAt}
+use Rattle.delivery.specs.Demand3.{Setup, base, size, Apart, Premises}
+
+-- an entry whose base is 0x100 plus lo
+abbrev entry : ℕ → ℕ → List ℕ
+entry lo slots = lo ∷ 1 ∷ 0 ∷ 0 ∷ 0 ∷ 0 ∷ 0 ∷ 0 ∷ slots ∷ 0 ∷ 0 ∷ 0 ∷ 0 ∷ 0 ∷ 0 ∷ 0 ∷ []
+
+-- a table at 0 with zeros behind it, ring and reader new
+abbrev tabled : List ℕ → ℕ → ℕ → Setup
+tabled table zeros entries = record { mem = table ++ replicate zeros 0; table = 0; entries = entries; ring = empty; reader = readerAt empty }
+
+-- behind the table there are zeros
+behind : (table : List ℕ) (zeros x : ℕ) → length table + (x - length table) ≡ x → x - length table < zeros
+    → byte (table ++ replicate zeros 0) x ≡ 0
+behind table zeros x e h =
+    subst (λ (y : ℕ). byte (table ++ replicate zeros 0) y ≡ 0) e
+    (getD-append-add table (replicate zeros 0) (x - length table) 0 ∙ getD-replicate zeros (x - length table) 0 0 h)
+
+-- ---- one segment of two slots at 0x100
+
+abbrev pub one : Setup
+one = tabled (entry 0 2) 0x110 1
+
+only : (j : ℕ) → j < 1 → j ≡ 0
+only j h = omega arith
+
+one-zeros : (j : ℕ) → j < 1 → (i : ℕ) → i < 16 * size one j → byte (one .mem) (base one j + i) ≡ 0
+unfolding entryAt le
+one-zeros zero h i u = behind (entry 0 2) 0x110 (256 + i) (omega arith) (omega arith)
+one-zeros (suc j) h i u = absurd (omega arith)
+
+pub one-met : Premises one
+unfolding inside goodEntry entryAt le
+one-met =
+    record {
+      aligned = refl;
+      counted = refl;
+      within = refl;
+      good = λ j h. rw (only j h);
+      zeros = one-zeros;
+      segments = λ j k h l n. absurd (omega arith);
+      tables = λ j h. rw (only j h) (inr (omega arith));
+    }
+
+-- ---- two segments, of one slot at 0x140 and of three at 0x100, the later one first
+
+abbrev pub two : Setup
+two = tabled (entry 0x40 1 ++ entry 0 3) 0x130 2
+
+two-zeros : (j : ℕ) → j < 2 → (i : ℕ) → i < 16 * size two j → byte (two .mem) (base two j + i) ≡ 0
+unfolding entryAt le
+two-zeros zero h i u = behind (entry 0x40 1 ++ entry 0 3) 0x130 (320 + i) (omega arith) (omega arith)
+two-zeros (suc zero) h i u = behind (entry 0x40 1 ++ entry 0 3) 0x130 (256 + i) (omega arith) (omega arith)
+two-zeros (suc (suc j)) h i u = absurd (omega arith)
+
+two-good : (j : ℕ) → j < 2 → goodEntry (two .mem) (entryAt (two .mem) (0 + 16 * j)) ≡ true
+unfolding inside goodEntry entryAt le
+two-good zero h = refl
+two-good (suc zero) h = refl
+two-good (suc (suc j)) h = absurd (omega arith)
+
+two-segments : (j k : ℕ) → j < 2 → k < 2 → j ≢ k → Apart (base two j) (16 * size two j) (base two k) (16 * size two k)
+unfolding entryAt le
+two-segments zero zero h l n = absurd (n refl)
+two-segments zero (suc zero) h l n = inr (omega arith)
+two-segments (suc zero) zero h l n = inl (omega arith)
+two-segments (suc zero) (suc zero) h l n = absurd (n refl)
+two-segments zero (suc (suc k)) h l n = absurd (omega arith)
+two-segments (suc zero) (suc (suc k)) h l n = absurd (omega arith)
+two-segments (suc (suc j)) k h l n = absurd (omega arith)
+
+two-tables : (j : ℕ) → j < 2 → Apart (base two j) (16 * size two j) 0 (16 * 2)
+unfolding entryAt le
+two-tables zero h = inr (omega arith)
+two-tables (suc zero) h = inr (omega arith)
+two-tables (suc (suc j)) h = absurd (omega arith)
+
+pub two-met : Premises two
+unfolding inside
+two-met =
+    record {
+      aligned = refl;
+      counted = refl;
+      within = refl;
+      good = two-good;
+      zeros = two-zeros;
+      segments = two-segments;
+      tables = two-tables;
+    }
