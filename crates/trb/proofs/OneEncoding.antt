@@ -1,13 +1,13 @@
 -- Events, one encoding each: what is written is read back, and what is read was written, by one event and cycle bit. Assumes nothing.
-use mathlib.Core.Path.{_≡_, refl, sym, ap, _∙_, subst}
-use mathlib.Core.Bool.{Bool, true, false, cond, _&&_, false≢true}
+use mathlib.Core.Path.{_≡_, refl, sym, ap, _∙_}
+use mathlib.Core.Bool.{Bool, true, false, false≢true}
 use mathlib.Core.List.{List, [], _∷_}
 use mathlib.Core.Logic.{_↔_}
 use Prim.{Unit, tt}
 use Prim.Native.Nat.{ℕ, _+_, _*_, _/_, _^_, _<_}
 use native.Mathlib.Omega.{arith}
 use borrow.Author.Tests.{eqb-true, eq-eqb, lt-ltb, ltb-true}
-use lib.Dec.{eqb, ltb, lit<}
+use lib.Dec.{eqb, lit<}
 use lib.ListN.{length, getD}
 use Rattle.guest.specs.Refusals.{event}
 use Rattle.guest.specs.Judge.{judge}
@@ -18,13 +18,12 @@ use Rattle.guest.proofs.Tests.{both}
 use Rattle.guest.proofs.Judge.{judge-by}
 use Rattle.guest.proofs.Memory.{Bytes}
 use Rattle.guest.proofs.Fields.{Sized, split-sized, split-join, join-split}
-use Rattle.codes.specs.Codes.{numberOf, codeOf}
+use Rattle.codes.specs.Codes.{numberOf}
 use Rattle.codes.specs.Types as types
 use Rattle.codes.specs.declared.CompletionCode.{CompletionCode}
-use Rattle.codes.specs.declared.Coded.{Coded}
 use Rattle.codes.proofs.Codes.{code-of-number, number-lt}
 use Rattle.trb.specs.Trb.{typeOf, cycleOf, pointerOf, flagOf, bit}
-use Rattle.trb.specs.Events.{pack, inCode, ofCode, inTransfer, ofTransfer, transferDwords, inCommandCompletion, ofCommandCompletion, commandCompletionDwords, inPortStatusChange, ofPortStatusChange, portStatusChangeDwords, eventDwords, eventBytes, valid, refused, accepted, bytesAnswered, clear, reservedInTransfer, reservedInCommandCompletion, reservedInPortStatusChange, codeIn, isListed, listedIn, readTests, answered, unrecognized, transferAs, commandCompletionAs, portStatusChangeAs, eventOf, Typed}
+use Rattle.trb.specs.Events.{pack, inCode, ofCode, inTransfer, ofTransfer, transferDwords, inCommandCompletion, ofCommandCompletion, commandCompletionDwords, inPortStatusChange, ofPortStatusChange, portStatusChangeDwords, eventDwords, eventBytes, valid, refused, accepted, bytesAnswered, clear, reservedInTransfer, reservedInCommandCompletion, reservedInPortStatusChange, codeIn, isListed, listedIn, readTests, answered, transferAs, commandCompletionAs, portStatusChangeAs, eventOf, Typed}
 use Rattle.trb.specs.declared.event.TransferEventTrbData.{TransferEventTrbData}
 use Rattle.trb.specs.declared.event.CommandCompletionEventTrbData.{CommandCompletionEventTrbData}
 use Rattle.trb.specs.declared.event.PortStatusChangeEventTrbData.{PortStatusChangeEventTrbData}
@@ -36,7 +35,7 @@ use Rattle.trb.proofs.Pack.{whole, Packed, packed}
 use Rattle.trb.proofs.Rows.{by-type}
 use Rattle.trb.proofs.Coded.{listed-number}
 
--- ---- flags, codes, and fields that are 0
+-- ---- flags, and fields that are 0
 
 bit-back : (b : Bool) → eqb (bit b) 1 ≡ b
 bit-back true = refl

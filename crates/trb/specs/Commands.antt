@@ -79,7 +79,11 @@ setTrDequeuePointerAs trb =
 abbrev pub resetDeviceAs : List ℕ → ParsedCommand
 resetDeviceAs trb = answered (CommandTrbVariant.ResetDevice (record { «slot_id» = field trb 3 24 8 }))
 
--- the rows by type, table 6-91: 18 to 21 are optional and not supported, and any other number is no command's
+-- optional commands (refusal 9)
+abbrev pub optionals : List ℕ
+optionals = types.forceEvent ∷ types.negotiateBandwidth ∷ types.setLatencyToleranceValue ∷ types.getPortBandwidth ∷ []
+
+-- the rows by type, table 6-91; any other number is no command's
 unfoldable pub commandOf : List ℕ → ParsedCommand
 commandOf trb =
     let t = typeOf trb in
@@ -92,7 +96,7 @@ commandOf trb =
     when (eqb t types.stopEndpoint) (stopEndpointAs trb) or
     when (eqb t types.setTrDequeuePointer) (setTrDequeuePointerAs trb) or
     when (eqb t types.resetDevice) (resetDeviceAs trb) or
-    when (oneOf t (types.forceEvent to types.getPortBandwidth)) (unrecognized optional t trb) or
+    when (oneOf t optionals) (unrecognized optional t trb) or
     when (eqb t types.forceHeader) (answered CommandTrbVariant.ForceHeader) or
     when (eqb t types.noOpCommand) (answered CommandTrbVariant.NoOp) or
     unrecognized type t trb

@@ -6,7 +6,7 @@ use lib.Dec.{eqb}
 use lib.ListN.{replicate}
 use Rattle.guest.specs.Refusals.{optional, type}
 use Rattle.guest.specs.Judge.{Tests, judge}
-use Rattle.guest.specs.Fields.{dword, field}
+use Rattle.guest.specs.Fields.{field}
 
 -- the bit of a dword
 abbrev pub flagOf : List ℕ → ℕ → ℕ → Bool

@@ -20,4 +20,4 @@ command-completion-dwords-spec =
     (λ c. search needs)
     (λ c. search needs)
     (λ c. search needs)
-    (λ c. let a = c .before .before .before .before in rw (a .before .number .ensures, a .bit .ensures .0, flat-command-completion, flat-code, div-one)))
+    (λ c. let a = c .before .before .before .before in rw (a .before .number .ensures, a .bit .ensures .0, ← flat-command-completion, ← flat-code, div-one)))

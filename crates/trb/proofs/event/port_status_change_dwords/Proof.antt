@@ -14,4 +14,4 @@ port-status-change-dwords-spec =
     (λ c. search needs)
     (λ c. search needs)
     (λ c. search needs)
-    (λ c. rw (c .before .bit .ensures .0, flat-port-status-change, flat-top)))
+    (λ c. rw (c .before .bit .ensures .0, ← flat-port-status-change, ← flat-top)))

@@ -26,4 +26,4 @@ transfer-dwords-spec =
     (λ c. search needs)
     (λ c. search needs)
     (λ c. search needs)
-    (λ c. let a = c .before .before .before .before .before in rw (a .before .before .number .ensures, a .bit2 .ensures .0, a .before .bit .ensures .0, flat-transfer, flat-code, div-one)))
+    (λ c. let a = c .before .before .before .before .before in rw (a .before .before .number .ensures, a .bit2 .ensures .0, a .before .bit .ensures .0, ← flat-transfer, ← flat-code, div-one)))

@@ -1,7 +1,7 @@
 -- At each arm the type that it matched picks the row. Assumes nothing.
 use mathlib.Core.Path.{_≡_}
 use mathlib.Core.Bool.{true, false}
-use mathlib.Core.Logic.{_⊎_, inl, inr, ⊎-elim}
+use mathlib.Core.Logic.{inl, inr, ⊎-elim}
 use native.Mathlib.Omega.{arith}
 use Rattle.guest.proofs.Tests.{tests}
 use Rattle.trb.specs.Trb.{_to_, oneOf}
