@@ -3,18 +3,18 @@ use Prim.{tt}
 use Prim.Native.Nat.{ℕ, _+_, _*_, _≤_, _<_}
 use mathlib.Core.Path.{_≡_, refl, sym, ap, ap₂, _∙_}
 use mathlib.Core.Bool.{Bool, true, false, cond, not, Bool·beq}
-use mathlib.Core.List.{List, []}
+use mathlib.Core.List.{List, [], _∷_}
 use native.Mathlib.Decide.{decLe}
 use native.Mathlib.Omega.{arith}
 use borrow.Author.Tests.{eq-eqb, ne-eqb, lt-ltb, le-ltb}
 use lib.Dec.{eqb, ltb, lit<}
 use lib.ListN.{replicate}
 use Rattle.guest.specs.Judge.{judge}
-use Rattle.guest.specs.Memory.{Memory, trbAt}
+use Rattle.guest.specs.Memory.{Memory, inside, trbAt}
 use Rattle.guest.proofs.Judge.{Passes, Numbered, answer-passes, answer-given}
 use Rattle.trb.specs.Trb.{cycleOf}
-use Rattle.event_ring.specs.Ring.{entryOf, last, nextIndex, nextEntry, entered, along, nextState, nextTests, freshOf, takeTests, takeRefused, takenAt, nothingAt, take, numberOf}
-use Rattle.event_ring.specs.Consumer.{Consumer, dequeue, event?, onward, Consumed, event, none, consume}
+use Rattle.event_ring.specs.Ring.{entryOf, entryAt, okState, last, nextIndex, nextEntry, entered, along, nextState, nextTests, freshOf, takeTests, takeRefused, takenAt, nothingAt, take, numberOf, valuesOf, started}
+use Rattle.event_ring.specs.Consumer.{Consumer, first, dequeue, event?, onward, Consumed, event, none, consume}
 use Rattle.event_ring.specs.declared.EventRing.{EventRing}
 use Rattle.event_ring.specs.declared.EventReader.{EventReader}
 use Rattle.event_ring.specs.declared.Take.{Take}
@@ -28,9 +28,34 @@ pub record StandsAt (m : Memory) (s : EventRing) (k : Consumer) : Type 0 where
   pub left : k .slot + s .remaining ≡ entryOf m (s .table) (k .segment) .size
   pub cycle : s .cycle ≡ k .cycle
 
+-- a step keeps the table
+pub record SameTable (s s′ : EventRing) : Type 0 where
+  pub ready : s′ .ready ≡ s .ready
+  pub table : s′ .table ≡ s .table
+  pub entries : s′ .entries ≡ s .entries
+
+same-table : (m : Memory) (s : EventRing) → SameTable s (nextState m s)
+unfolding nextState
+same-table m s = go (last s)
+  where
+    go : (b : Bool) → SameTable s (cond b (entered s (nextIndex s) (nextEntry m s)) (along s))
+    go true = record { ready = refl; table = refl; entries = refl }
+    go false = record { ready = refl; table = refl; entries = refl }
+
+-- a configured ring or reader stands where the consumer starts
+pub starts : (m : Memory) (table entries : ℕ) → StandsAt m (started m table entries) first
+starts m table entries =
+    let z : table ≡ table + 16 * 0 = omega arith in
+    record {
+      segment = refl;
+      place = omega (arith, ap (λ (a : ℕ). entryAt m a .base) z);
+      left = omega (arith, ap (λ (a : ℕ). entryAt m a .size) z);
+      cycle = refl;
+    }
+
 -- a take agrees with what the consumer does
 abbrev pub Agrees : Memory → EventReader → Taken → Consumed → Type 0
-Agrees m r t (event trb k) = (t .answer ≡ Take.Event) × (t .trb ≡ trb) × StandsAt m (t .reader .state) k
+Agrees m r t (event trb k) = (t .answer ≡ Take.Event) × (t .trb ≡ trb) × StandsAt m (t .reader .state) k × SameTable (r .state) (t .reader .state)
 Agrees m r t none = t ≡ nothingAt r
 
 -- ---- a step
@@ -113,5 +138,26 @@ take-follows m r k at z =
     rw (take-gives m r z, same) (go (event? m (s .table) (s .entries) k))
   where
     go : (fresh : Bool) → Agrees m r (given m r fresh) (cond fresh (event (trbAt m (dequeue m (r .state .table) (r .state .entries) k)) (onward m (r .state .table) (r .state .entries) k)) none)
-    go true = (refl, ap (trbAt m) (at .place), steps m (r .state) k (limits (r .state) (take-passes m r z .0)) at)
+    go true = (refl, ap (trbAt m) (at .place), steps m (r .state) k (limits (r .state) (take-passes m r z .0)) at, same-table m (r .state))
     go false = refl
+
+-- a stale slot is nothing, and no entry is looked at for it
+pub stale-is-nothing : (m : Memory) (r : EventReader) → okState (r .state) ≡ true → inside m (r .state .place) 16 ≡ true
+    → freshOf m (r .state) ≡ false → take m r ≡ nothingAt r
+unfolding take judge
+stale-is-nothing m r ok within stale = rw (ok, within, stale)
+
+-- ---- number and values tell the answers apart
+
+told : (number : ℕ) (values : List ℕ) → Take
+told number [] = Take.Refused number
+told number (v ∷ vs) = cond (eqb v 0) Take.Nothing Take.Event
+
+told-back : (a : Take) → told (numberOf a) (valuesOf a) ≡ a
+unfolding told
+told-back Take.Event = refl
+told-back Take.Nothing = refl
+told-back (Take.Refused n) = refl
+
+pub told-apart : (a b : Take) → numberOf a ≡ numberOf b → valuesOf a ≡ valuesOf b → a ≡ b
+told-apart a b n v = sym (told-back a) ∙ ap₂ told n v ∙ told-back b

@@ -2,8 +2,10 @@
 -- cases L1 and L2. Assumes nothing.
 use Prim.Native.Nat.{ℕ, zero, suc, _+_, _≤_, _<_}
 use mathlib.Core.Path.{_≡_, refl, sym, ap, ap₂, subst, _∙_}
-use mathlib.Core.Bool.{Bool, true, false, not, Bool·beq, or-self, true≢false}
-use mathlib.Core.List.{List}
+use mathlib.Core.Bool.{Bool, true, false, cond, not, Bool·beq, or-self, true≢false}
+use mathlib.Core.List.{List, [], _∷_}
+use lib.Dec.{eqb}
+use lib.ListN.{replicate}
 use mathlib.Core.Logic.{_↔_}
 use native.Mathlib.Numerals.{add-one}
 use native.Mathlib.Omega.{arith}
@@ -14,7 +16,7 @@ use Rattle.trb.specs.Trb.{cycleOf}
 use Rattle.trb.specs.Links.{linkOf}
 use Rattle.trb.specs.declared.link.LinkTrb.{LinkTrb}
 use Rattle.trb.specs.declared.link.LinkOrOther.{LinkOrOther}
-use Rattle.linked_ring.specs.Chase.{look, seen, onward, chaseFrom, chase, ended, found, followed, freshOf, noted, unnoted, ringAt}
+use Rattle.linked_ring.specs.Chase.{look, seen, onward, chaseFrom, chase, ended, found, followed, freshOf, noted, unnoted, ringAt, numberOf, valuesOf}
 use Rattle.linked_ring.specs.declared.LinkedRing.{LinkedRing}
 use Rattle.linked_ring.specs.declared.Notes.{Notes}
 use Rattle.linked_ring.specs.declared.Answer.{Answer}
@@ -84,11 +86,15 @@ notesAfter m (suc k) e = note (linkOf (trbAt m (after m k e .place))) (notesAfte
     note (LinkOrOther.Link l) n = noted n l
     note LinkOrOther.Other n = n
 
+-- k hops from e are by fresh Links alone
+abbrev pub Linked : Memory → LinkedRing → ℕ → Type 0
+Linked m e k = (j : ℕ) → j < k → (l : LinkTrb) × Fresh m (after m j e) (LinkOrOther.Link l)
+
 -- k hops from e, by fresh Links alone, lead to r with the notes n
 pub record Way (m : Memory) (e r : LinkedRing) (n : Notes) (k : ℕ) : Type 0 where
   pub there : r ≡ after m k e
   pub notes : n ≡ notesAfter m k e
-  pub links : (j : ℕ) → j < k → (l : LinkTrb) × Fresh m (after m j e) (LinkOrOther.Link l)
+  pub links : Linked m e k
 
 way-none : (m : Memory) (e : LinkedRing) → Way m e e unnoted 0
 unfolding after notesAfter
@@ -106,12 +112,17 @@ way-more m e r n k l w s =
 
 -- ---- how a chase ends
 
+-- fields with nothing to show are 0
+abbrev pub NoTrb : Chase → Type 0
+NoTrb c = (c .trb ≡ replicate 16 0) × (c .address ≡ 0)
+
 -- each answer of a chase that entered at e, by what stands at the place where it ended
 abbrev pub Ending : Memory → LinkedRing → ℕ → Chase → Answer → Type 0
 Ending m e limit c Answer.Trb = Fresh m (c .ring) LinkOrOther.Other × (c .address ≡ c .ring .place) × (c .trb ≡ trbAt m (c .address))
-Ending m e limit c Answer.NothingNew = Stale m (c .ring)
-Ending m e limit c Answer.TooManyLinks = (c .notes .links ≡ limit) × ((l : LinkTrb) × Fresh m (c .ring) (LinkOrOther.Link l))
-Ending m e limit c (Answer.Refused n) = (n ≡ 1) × (c .ring ≡ e) × (c .notes ≡ unnoted) × ((k : ℕ) × (k ≤ limit) × Outside m (after m k e))
+Ending m e limit c Answer.NothingNew = Stale m (c .ring) × NoTrb c
+Ending m e limit c Answer.TooManyLinks = (c .notes .links ≡ limit) × ((l : LinkTrb) × Fresh m (c .ring) (LinkOrOther.Link l)) × NoTrb c
+Ending m e limit c (Answer.Refused n) =
+    (n ≡ 1) × (c .ring ≡ e) × (c .notes ≡ unnoted) × ((k : ℕ) × (k ≤ limit) × Outside m (after m k e) × Linked m e k) × NoTrb c
 
 -- at most so many links, which are the hops that led to the ring answered
 pub record Ends (m : Memory) (e : LinkedRing) (limit : ℕ) (c : Chase) : Type 0 where
@@ -124,15 +135,15 @@ module _ (m : Memory) (e : LinkedRing) (limit : ℕ) where
       → ((l : LinkTrb) → Fresh m r (LinkOrOther.Link l) → Ends m e limit (k l)) → Ends m e limit (look m e r n k)
   look-ends r n k h w next =
       look-cases m e r n k (Ends m e limit)
-      (λ o. record { bounded = omega arith; way = way-none m e; ending = (refl, refl, refl, (n .links, h, rw (← w .there) o)) })
-      (λ o. record { bounded = h; way = w; ending = o })
+      (λ o. record { bounded = omega arith; way = way-none m e; ending = (refl, refl, refl, (n .links, h, rw (← w .there) o, w .links), (refl, refl)) })
+      (λ o. record { bounded = h; way = w; ending = (o, (refl, refl)) })
       (λ o. record { bounded = h; way = w; ending = (o, refl, refl) })
       next
 
   onward-ends : (left : ℕ) (r : LinkedRing) (n : Notes) (l : LinkTrb) → n .links + left ≡ limit → Way m e r n (n .links) → Fresh m r (LinkOrOther.Link l)
       → Ends m e limit (onward m e left r n l)
   unfolding onward
-  onward-ends zero r n l h w s = record { bounded = omega arith; way = w; ending = (omega arith, (l, s)) }
+  onward-ends zero r n l h w s = record { bounded = omega arith; way = w; ending = (omega arith, (l, s), (refl, refl)) }
   onward-ends (suc left) r n l h w s =
       let w′ = way-more m e r n (n .links) l w s in
       look-ends (followed r l) (noted n l) (onward m e left (followed r l) (noted n l)) (omega arith) w′
@@ -148,8 +159,8 @@ chase-ends m r =
 -- "nothing new" is never answered where a fresh Link stands
 pub never-nothing : (m : Memory) (r : LinkedRing) (l : LinkTrb) → Fresh m (chase m r .ring) (LinkOrOther.Link l) → chase m r .answer ≡ Answer.NothingNew → ⊥
 never-nothing m r l s a =
-    let stale : Stale m (chase m r .ring) = subst (Ending m r 256 (chase m r)) a (chase-ends m r .ending) in
-    true≢false (sym (s .fresh) ∙ stale .stale)
+    let told = subst (Ending m r 256 (chase m r)) a (chase-ends m r .ending) in
+    true≢false (sym (s .fresh) ∙ told .0 .stale)
 
 -- "too many links" is answered exactly if a fresh Link stands at the place of the entry and after each of the first 256 hops
 abbrev pub EndlessLinks : Memory → LinkedRing → Type 0
@@ -165,7 +176,7 @@ module _ (m : Memory) (r : LinkedRing) where
       let last = subst (Ending m r 256 (chase m r)) a (e .ending) in
       go (decLe (suc j) 256) e last
     where
-      go : Dec (suc j ≤ 256) → Ends m r 256 (chase m r) → (chase m r .notes .links ≡ 256) × ((l : LinkTrb) × Fresh m (chase m r .ring) (LinkOrOther.Link l))
+      go : Dec (suc j ≤ 256) → Ends m r 256 (chase m r) → Ending m r 256 (chase m r) Answer.TooManyLinks
           → (l : LinkTrb) × Fresh m (after m j r) (LinkOrOther.Link l)
       go (yes p) e last = e .way .links j (omega (arith, last .0))
       go (no p) e last =
@@ -180,7 +191,7 @@ module _ (m : Memory) (r : LinkedRing) where
   ended-so c Answer.NothingNew e p all =
       let o = rw p at (e .ending) in
       let s = all (c .notes .links) (e .bounded) in
-      absurd (true≢false (sym (s .1 .fresh) ∙ (rw (e .way .there) at (o .stale))))
+      absurd (true≢false (sym (s .1 .fresh) ∙ (rw (e .way .there) at (o .0 .stale))))
   ended-so c Answer.TooManyLinks e p all = refl
   ended-so c (Answer.Refused n) e p all =
       let o = rw p at (e .ending) in
@@ -250,3 +261,19 @@ module _ (m : Memory) (r : LinkedRing) (l : LinkTrb) (it : Itself m r l) where
       first flipped (turns t)
       ∙ look-stale m r flipped (notesOf 1 l) (onward m r 255 flipped (notesOf 1 l))
       (record { within = it .stands .within; stale = beq-not (cycleOf (trbAt m (r .place))) (r .cycle) ∙ ap not (it .stands .fresh) })
+
+-- ---- number and values tell the answers apart
+
+told : (number : ℕ) (values : List ℕ) → Answer
+told number [] = Answer.Refused number
+told number (v ∷ vs) = cond (eqb v 0) Answer.NothingNew (cond (eqb v 1) Answer.Trb Answer.TooManyLinks)
+
+told-back : (a : Answer) → told (numberOf a) (valuesOf a) ≡ a
+unfolding told
+told-back Answer.Trb = refl
+told-back Answer.NothingNew = refl
+told-back Answer.TooManyLinks = refl
+told-back (Answer.Refused n) = refl
+
+pub told-apart : (a b : Answer) → numberOf a ≡ numberOf b → valuesOf a ≡ valuesOf b → a ≡ b
+told-apart a b n v = sym (told-back a) ∙ ap₂ told n v ∙ told-back b

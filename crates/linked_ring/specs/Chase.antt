@@ -82,7 +82,7 @@ chaseFrom m entry left r n = look m entry r n (onward m entry left r n)
 unfoldable pub chase : Memory → LinkedRing → Chase
 chase m r = chaseFrom m r 256 r unnoted
 
--- ---- document 01's number of an answer, 0 for one that is no refusal, and its values: which of the answers it is
+-- ---- document 01's number of an answer, 0 where nothing is refused, and its values: 0 for nothing new, 1 for a TRB, 2 for too many links
 
 abbrev pub numberOf : Answer → ℕ
 numberOf Answer.Trb = 0
@@ -92,6 +92,6 @@ numberOf (Answer.Refused n) = n
 
 abbrev pub valuesOf : Answer → List ℕ
 valuesOf Answer.Trb = 1 ∷ []
-valuesOf Answer.NothingNew = 2 ∷ []
-valuesOf Answer.TooManyLinks = 3 ∷ []
+valuesOf Answer.NothingNew = 0 ∷ []
+valuesOf Answer.TooManyLinks = 2 ∷ []
 valuesOf (Answer.Refused n) = []

@@ -16,7 +16,8 @@ use Rattle.trb.specs.Transfers as transfers
 use Rattle.trb.specs.declared.event.EventTrb.{EventTrb}
 use Rattle.trb.specs.declared.command.CommandTrbVariant.{CommandTrbVariant}
 use Rattle.trb.specs.declared.link.LinkTrb.{LinkTrb}
-use Rattle.linked_ring.specs.Chase.{ringAt, ended, chase}
+use Rattle.trb.specs.Links.{linkOf}
+use Rattle.linked_ring.specs.Chase.{ringAt, ended, onward, chase}
 use Rattle.linked_ring.specs.declared.LinkedRing.{LinkedRing}
 use Rattle.linked_ring.specs.declared.Answer.{Answer}
 use Rattle.linked_ring.proofs.Links.{Itself, notesOf, L1, L2}
@@ -55,6 +56,10 @@ adding table entries reports = outcomes (memory table) (configured (memory table
 
 abbrev outcome : ℕ → ℕ → Bool → Outcome
 outcome n slot cycle = record { number = n; slot = slot; cycle = cycle }
+
+-- a Link at address 0 to address 0, with these bits in byte 12
+abbrev linkToZero : ℕ → Memory
+linkToZero bits = 0 ∷ 0 ∷ 0 ∷ 0 ∷ 0 ∷ 0 ∷ 0 ∷ 0 ∷ 0 ∷ 0 ∷ 0 ∷ 0 ∷ bits ∷ 0x18 ∷ 0 ∷ 0 ∷ []
 
 pub record Marked : Type 0 where
   -- command completion, pointer 0x1000, parameter 0, code 1, slot 1, cycle 1
@@ -102,6 +107,9 @@ pub record Marked : Type 0 where
       → chase m r ≡ ended Answer.TooManyLinks r (notesOf 256 l)
   pub L2 : (m : Memory) (r : LinkedRing) (l : LinkTrb) → Itself m r l → l .«toggle_cycle» ≡ true
       → chase m r ≡ ended Answer.NothingNew (ringAt (r .place) (not (r .cycle))) (notesOf 1 l)
+  -- and at the sixteen bytes of such a Link at address 0
+  pub L1-bytes : chase (linkToZero 1) (ringAt 0 true) ≡ ended Answer.TooManyLinks (ringAt 0 true) (record { links = 256; cleared = false; completion = false })
+  pub L2-bytes : chase (linkToZero 3) (ringAt 0 true) ≡ ended Answer.NothingNew (ringAt 0 false) (record { links = 1; cleared = false; completion = false })
   -- one segment, base 0x100, size 2
   pub R1 :
       adding (entry 0 2) 1 (0x100 ∷ 0x100 ∷ 0x110 ∷ 0x110 ∷ 0x100 ∷ [])
@@ -120,7 +128,7 @@ always-full zero = refl
 always-full (suc n) = ap (λ (rest : List Outcome). outcome 7 0x100 false ∷ rest) (always-full n)
 
 pub marked : Marked
-unfolding judge le part inside write bytesOf numberOf eventDwords valid bytesAnswered commands.commandOf transfers.transferOf entryAt goodEntry okState nextIndex nextTests nextState configured added addedMemory
+unfolding judge le part inside write bytesOf numberOf eventDwords valid bytesAnswered commands.commandOf transfers.transferOf linkOf onward chase entryAt goodEntry okState nextIndex nextTests nextState configured added addedMemory
 marked =
     record {
       E1 = refl;
@@ -132,6 +140,8 @@ marked =
       P4-command = λ trb t. rw t;
       L1 = λ m r l it. L1 m r l it;
       L2 = λ m r l it. L2 m r l it;
+      L1-bytes = refl;
+      L2-bytes = refl;
       R1 = refl;
       R2 = always-full;
       R3 = refl;

@@ -133,7 +133,7 @@ valuesOf (CommandTrbVariant.SetTrDequeuePointer d) =
     ∷ d .«endpoint_id» ∷ d .«slot_id» ∷ []
 valuesOf (CommandTrbVariant.ResetDevice d) = types.resetDevice ∷ d .«slot_id» ∷ []
 valuesOf CommandTrbVariant.ForceHeader = types.forceHeader ∷ []
-valuesOf (CommandTrbVariant.Unrecognized e) = e .«trb_type» ∷ []
+valuesOf (CommandTrbVariant.Unrecognized e) = e .number ∷ e .«trb_type» ∷ []
 
 -- ---- the same from the TRB itself, in document 01's numbers; proofs/Shown.antt proves that every answer has these
 

@@ -216,7 +216,7 @@ numberOfVariant (EventVariant.Unrecognized e) = e .number
 
 abbrev pub valuesOfVariant : EventVariant → List ℕ
 valuesOfVariant (EventVariant.Event e) = valuesOfEvent e
-valuesOfVariant (EventVariant.Unrecognized e) = e .«trb_type» ∷ []
+valuesOfVariant (EventVariant.Unrecognized e) = e .number ∷ e .«trb_type» ∷ []
 
 -- ---- the same from the TRB itself, in document 01's numbers; proofs/Shown.antt proves that every answer has these
 

@@ -115,7 +115,7 @@ valuesOf TransferTrbVariant.Isoch = types.isoch ∷ []
 valuesOf (TransferTrbVariant.EventData d) =
     types.eventData ∷ d .«event_data» ∷ bit (d .chain) ∷ bit (d .«interrupt_on_completion») ∷ []
 valuesOf (TransferTrbVariant.NoOp d) = types.noOp ∷ bit (d .chain) ∷ bit (d .«interrupt_on_completion») ∷ []
-valuesOf (TransferTrbVariant.Unrecognized e) = e .«trb_type» ∷ []
+valuesOf (TransferTrbVariant.Unrecognized e) = e .number ∷ e .«trb_type» ∷ []
 
 -- ---- the same from the TRB itself, in document 01's numbers; proofs/Shown.antt proves that every answer has these
 

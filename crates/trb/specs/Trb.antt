@@ -58,9 +58,9 @@ oneOf n (k ∷ ks) = eqb n k || oneOf n ks
 abbrev pub typeBeside : ℕ → List ℕ → ℕ
 typeBeside number trb = cond (oneOf number (optional ∷ type ∷ [])) (typeOf trb) 0
 
--- document 01's values: the type and the fields; for a refusal, the type beside it
+-- document 01's values: the type and the fields; for a refusal, its number and the type beside it
 abbrev pub valuesShown : Tests → List ℕ → List ℕ → List ℕ
-valuesShown tests trb fields = judge tests (λ number. typeBeside number trb ∷ []) (typeOf trb ∷ fields)
+valuesShown tests trb fields = judge tests (λ number. number ∷ typeBeside number trb ∷ []) (typeOf trb ∷ fields)
 
 -- the raw bytes: sixteen zeros; for a refusal, the bytes that were given
 abbrev pub rawShown : Tests → List ℕ → List ℕ
