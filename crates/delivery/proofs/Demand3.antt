@@ -8,7 +8,7 @@ use mathlib.Core.Bool.{Bool, true, false, not, cond}
 use mathlib.Core.List.{List, [], _∷_, _++_}
 use native.Mathlib.Omega.{arith}
 use native.Mathlib.Numerals.{add-one}
-use native.Mathlib.Nat.{add-zero}
+use native.Mathlib.Nat.{add-zero, div-one}
 use native.Mathlib.Decide.{ℕ-discrete, decLt}
 use lib.ListN.{length, getD, length-append, List·getD-append}
 use lib.Seq.{getD-append-seam}
@@ -26,7 +26,7 @@ use Rattle.trb.proofs.OneEncoding.{reads-back, cycle-back, bytes-length}
 use Rattle.event_ring.specs.Ring.{nextState, full, refusedAt, movedTo, started, configureTests, configured, added, addedMemory, readerConfigured}
 use Rattle.event_ring.specs.declared.EventRing.{EventRing}
 use Rattle.event_ring.specs.declared.Moved.{Moved}
-use Rattle.delivery.specs.Plain.{Op, adds, takes, reports, changes, Answer, gives, Turn, turn, answers, final, Plain, nth, listMachine}
+use Rattle.delivery.specs.Plain.{Op, adds, takes, reports, changes, Answer, gives, Turn, turn, answers, final, Plain, nth, fits, listMachine}
 use Rattle.delivery.specs.World.{Found, found, none, Reader, World, decoded, taking, ringMachine, standardReader, portReader}
 use Rattle.delivery.specs.Demand3.{Setup, base, slots, Apart, Premises, Outside, Allowed, AllAllowed, emptyList, Delivers, Demand3, Statement}
 use Rattle.delivery.specs.Demand3 as demand
@@ -34,6 +34,7 @@ use Rattle.delivery.proofs.Queue
 use Rattle.delivery.proofs.Memory.{Same, write-same, trb-same, trb-put}
 use Rattle.delivery.proofs.Walk.{walk, period, away, distinct, slot-apart, slot-within, slot-aligned, some-slots, zero-slot}
 use Rattle.delivery.proofs.Sound.{Kept, sound, next-walk, add-judged, add-invalid, configures}
+use Rattle.delivery.proofs.Tables.{tables}
 use Rattle.delivery.proofs.Readers.{Reads, standard-reads, port-reads}
 
 -- what the slot of position p holds, what it should hold, and its cycle
@@ -45,6 +46,13 @@ cyc s p = walk s p .cycle
 
 abbrev wanted : Setup → List EventTrb → ℕ → List ℕ
 wanted s es p = eventBytes (nth es p) (cyc s p)
+
+-- what the list asks of an event is what the ring asks
+fits-valid : (e : EventTrb) → fits e ≡ valid e
+unfolding fits valid
+fits-valid (EventTrb.Transfer t) = refl
+fits-valid (EventTrb.CommandCompletion t) = rw (div-one (t .«command_trb_pointer»))
+fits-valid (EventTrb.PortStatusChange t) = refl
 
 -- ---- writes
 
@@ -81,7 +89,7 @@ module _ (s : Setup) (W : Premises s) (m : Memory) (K : Kept s m) where
 
     kept-put : Kept s put
     unfolding put
-    kept-put = kept-write (walk s a .place) v fits-put (put-apart _ _ (slot-apart s W _ _ a (W .tables)))
+    kept-put = kept-write (walk s a .place) v fits-put (put-apart _ _ (slot-apart s W _ _ a (tables s W)))
 
     look-put : look s put a ≡ v
     unfolding put
@@ -137,7 +145,7 @@ module _ (s : Setup) (W : Premises s) (R : Reader) (Q : Reads s R) (w : World (R
       rw (
         add-invalid (w .mem) (w .ring) e (w .report) v (refusedAt (w .ring)) (movedTo (nextState (w .mem) (w .ring))),
         add-invalid (w .mem) (w .ring) e (w .report) v (λ k. w .mem) (write (w .mem) (w .ring .place) (eventBytes e (w .ring .cycle))),
-        v,
+        fits-valid e ∙ v,
       )
       (record { same = refl; inv = I })
 
@@ -148,7 +156,7 @@ module _ (s : Setup) (W : Premises s) (R : Reader) (Q : Reads s R) (w : World (R
       rw (
         judged e v (refusedAt (w .ring)) (movedTo (nextState (w .mem) (w .ring))),
         judged e v (λ k. w .mem) (write (w .mem) (w .ring .place) (eventBytes e (w .ring .cycle))),
-        v,
+        fits-valid e ∙ v,
         eq-eqb (length (l .events) - l .reported) (slots s - 1) f,
       )
       (record { same = refl; inv = I })
@@ -176,7 +184,7 @@ module _ (s : Setup) (W : Premises s) (R : Reader) (Q : Reads s R) (w : World (R
       rw (
         judged e v (refusedAt (w .ring)) (movedTo (nextState (w .mem) (w .ring))),
         judged e v (λ k. w .mem) (write (w .mem) (w .ring .place) (eventBytes e (w .ring .cycle))),
-        v,
+        fits-valid e ∙ v,
         ne-eqb (length (l .events) - l .reported) (slots s - 1) f,
         I .ringAt,
       )

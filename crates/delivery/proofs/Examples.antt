@@ -9,7 +9,8 @@ use lib.ListN.{length, getD, replicate, getD-replicate}
 use lib.Seq.{getD-append-add}
 use Rattle.guest.specs.Memory.{Memory, byte, inside, le}
 use Rattle.event_ring.specs.Ring.{empty, entryAt, goodEntry, readerAt}
-use Rattle.delivery.specs.Demand3.{Setup, base, size, Apart, Premises}
+use Rattle.delivery.proofs.Demand3.{demand3}
+use Rattle.delivery.specs.Demand3.{Setup, base, size, Apart, Premises, Outside, Demand3, Statement}
 
 -- an entry whose base is 0x100 plus lo
 abbrev entry : ℕ → ℕ → List ℕ
@@ -49,7 +50,6 @@ one-met =
       good = λ j h. rw (only j h);
       zeros = one-zeros;
       segments = λ j k h l n. absurd (omega arith);
-      tables = λ j h. rw (only j h) (inr (omega arith));
     }
 
 -- ---- two segments, of one slot at 0x140 and of three at 0x100, the later one first
@@ -79,12 +79,6 @@ two-segments zero (suc (suc k)) h l n = absurd (omega arith)
 two-segments (suc zero) (suc (suc k)) h l n = absurd (omega arith)
 two-segments (suc (suc j)) k h l n = absurd (omega arith)
 
-two-tables : (j : ℕ) → j < 2 → Apart (base two j) (16 * size two j) 0 (16 * 2)
-unfolding entryAt le
-two-tables zero h = inr (omega arith)
-two-tables (suc zero) h = inr (omega arith)
-two-tables (suc (suc j)) h = absurd (omega arith)
-
 pub two-met : Premises two
 unfolding inside
 two-met =
@@ -95,5 +89,17 @@ two-met =
       good = two-good;
       zeros = two-zeros;
       segments = two-segments;
-      tables = two-tables;
     }
+
+-- so demand 3 holds of both, and something may be done to them: the bytes behind the first segment change
+pub one-delivered : Demand3 one
+unfolding Statement
+one-delivered = demand3 one one-met
+
+pub two-delivered : Demand3 two
+unfolding Statement
+two-delivered = demand3 two two-met
+
+pub one-changes : Outside one 0x20 0x40
+unfolding entryAt le
+one-changes = record { memory = omega arith; table = inr (omega arith); segment = λ j h. rw (only j h) (inl (omega arith)) }

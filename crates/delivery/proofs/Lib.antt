@@ -1,6 +1,7 @@
 pub mod Queue
 pub mod Memory
 pub mod Walk
+pub mod Tables
 pub mod Sound
 pub mod Readers
 pub mod Demand3

@@ -41,7 +41,7 @@ pub record Reads (s : Setup) (R : Reader) : Type 1 where
       → (r′ : R .State) × (R .look m r ≡ found (trbAt m (walk s p .place)) r′) × At m r′ (p + 1)
   -- at a stale slot there is nothing
   pub finds-none : (m : Memory) → Kept s m → (r : R .State) (p : ℕ) → At m r p → cycleOf (trbAt m (walk s p .place)) ≡ not (walk s p .cycle)
-      → R .look m r ≡ none
+      → R .look m r ≡ none r
   pub placed : (m : Memory) (r : R .State) (p : ℕ) → At m r p → R .place m r ≡ walk s p .place
   pub cycled : (m : Memory) (r : R .State) (p : ℕ) → At m r p → R .cycle r ≡ walk s p .cycle
   -- a change of memory that keeps the table leaves it where it is

@@ -47,10 +47,9 @@ pub record Premises (s : Setup) : Type 0 where
   pub counted : countOk (s .entries) ≡ true
   pub within : inside (s .mem) (s .table) (16 * s .entries) ≡ true
   pub good : (j : ℕ) → j < s .entries → goodEntry (s .mem) (entryOf (s .mem) (s .table) j) ≡ true
-  -- the segments are zero, apart from each other and from the table
+  -- the segments are zero, and apart from each other (that they are apart from the table follows)
   pub zeros : (j : ℕ) → j < s .entries → (i : ℕ) → i < 16 * size s j → byte (s .mem) (base s j + i) ≡ 0
   pub segments : (j k : ℕ) → j < s .entries → k < s .entries → j ≢ k → Apart (base s j) (16 * size s j) (base s k) (16 * size s k)
-  pub tables : (j : ℕ) → j < s .entries → Apart (base s j) (16 * size s j) (s .table) (16 * s .entries)
 
 -- ---- what may be done
 
@@ -87,9 +86,9 @@ abbrev pub emptyList : Plain
 emptyList = record { events = []; taken = 0; reported = 0 }
 
 pub record Delivers (s : Setup) (R : Reader) (ops : List Op) : Type 0 where
-  -- taken events, decoded, are the accepted ones, once each, in order, unaltered; an event is refused with 8 if it is not valid, with 7
-  -- exactly if all slots but one hold events not yet reported as taken, and with no other number; a take says nothing exactly if every
-  -- accepted event is taken
+  -- taken events, decoded, are the accepted ones, once each, in order, unaltered; an event is refused with 8 exactly if it is not valid, a
+  -- valid one with 7 exactly if all slots but one hold events not yet reported as taken, and with no other number; a take says nothing
+  -- exactly if every accepted event is taken
   pub answered : answers (ringMachine R) (started s R) ops ≡ answers (listMachine (slots s)) emptyList ops
   -- drained ends agree on place and cycle
   pub drained :

@@ -1,11 +1,10 @@
 -- What is done with a ring and a reader, and what a plain list with two counters answers to it.
-use Prim.Native.Nat.{ℕ, _+_, _-_}
-use mathlib.Core.Bool.{cond, not}
+use Prim.Native.Nat.{ℕ, _+_, _-_, _%_, _^_}
+use mathlib.Core.Bool.{Bool, true, cond, not, _&&_}
 use mathlib.Core.List.{List, [], _∷_, _++_}
 use lib.ListN.{length, getD}
-use lib.Dec.{eqb}
+use lib.Dec.{eqb, ltb}
 use Rattle.guest.specs.Refusals as refusal
-use Rattle.trb.specs.Events.{valid}
 use Rattle.trb.specs.declared.event.EventTrb.{EventTrb}
 
 -- ---- operations: any event is added, an event is taken, the reader's place is reported, bytes outside table and segments change
@@ -52,11 +51,17 @@ pub record Plain : Type 0 where
 abbrev pub nth : List EventTrb → ℕ → EventTrb
 nth es n = getD es n (EventTrb.PortStatusChange (record { «port_id» = 0 }))
 
--- an event that is not valid is refused with 8; with 7 exactly if all slots but one hold events not yet reported as taken; else it is
--- accepted. A take gives nothing exactly if every accepted event is taken, and else the next.
+-- an event that can be written: a command pointer's low four bits are 0, a parameter and a length are below 2 ^ 24
+unfoldable pub fits : EventTrb → Bool
+fits (EventTrb.Transfer t) = ltb (t .«trb_transfer_length») (2 ^ 24)
+fits (EventTrb.CommandCompletion t) = eqb (t .«command_trb_pointer» % 16) 0 && ltb (t .«command_completion_parameter») (2 ^ 24)
+fits (EventTrb.PortStatusChange t) = true
+
+-- an event that does not fit is refused with 8; one that does with 7 exactly if all slots but one hold events not yet reported as taken, and
+-- else it is accepted. A take gives nothing exactly if every accepted event is taken, and else the next.
 unfoldable pub listMachine : ℕ → Plain → Op → Turn Plain
 listMachine n l (adds e) =
-    cond (not (valid e)) (turn (refused refusal.event) l)
+    cond (not (fits e)) (turn (refused refusal.event) l)
     (cond (eqb (length (l .events) - l .reported) (n - 1)) (turn (refused refusal.full) l)
     (turn accepted (record { events = l .events ++ (e ∷ []); taken = l .taken; reported = l .reported })))
 listMachine n l takes =

@@ -19,8 +19,8 @@ use Rattle.delivery.specs.Plain.{Op, adds, takes, reports, changes, Answ
 
 pub data Found (S : Type 0) : Type 0 where
   found : List ℕ → S → Found S
-  none : Found S
-  refuses : ℕ → Found S
+  none : S → Found S
+  refuses : ℕ → S → Found S
 
 pub record Reader : Type 1 where
   pub State : Type 0
@@ -44,8 +44,8 @@ decoded (EventVariant.Unrecognized x) = garbled
 
 abbrev pub taking : {S : Type 0} → World S → Found S → Turn (World S)
 taking w (found trb r) = turn (decoded (eventOf trb .variant)) (record { mem = w .mem; ring = w .ring; reader = r; report = w .report })
-taking w none = turn nothing w
-taking w (refuses n) = turn (refused n) w
+taking w (none r) = turn nothing (record { mem = w .mem; ring = w .ring; reader = r; report = w .report })
+taking w (refuses n r) = turn (refused n) (record { mem = w .mem; ring = w .ring; reader = r; report = w .report })
 
 unfoldable pub ringMachine : (R : Reader) → World (R .State) → Op → Turn (World (R .State))
 ringMachine R w (adds e) =
@@ -61,16 +61,16 @@ ringMachine R w (changes a bytes) =
 -- ---- the two readers, on a table by its base and its number of entries
 
 -- the consumer of xHCI 4.9.4
-abbrev pub consumed : Consumed → Found Consumer
-consumed (standard.event trb k) = found trb k
-consumed standard.none = none
+abbrev pub consumed : Consumer → Consumed → Found Consumer
+consumed c (standard.event trb k) = found trb k
+consumed c standard.none = none c
 
 abbrev pub standardReader : ℕ → ℕ → Reader
 standardReader table entries =
     record {
       State = Consumer;
       start = standard.first;
-      look = λ m k. consumed (standard.consume m table entries k);
+      look = λ m k. consumed k (standard.consume m table entries k);
       place = λ m k. standard.dequeue m table entries k;
       cycle = λ k. k .cycle;
     }
@@ -78,8 +78,8 @@ standardReader table entries =
 -- the port's, as it was configured
 abbrev pub tookAs : Taken → Take → Found EventReader
 tookAs t Take.Event = found (t .trb) (t .reader)
-tookAs t Take.Nothing = none
-tookAs t (Take.Refused n) = refuses n
+tookAs t Take.Nothing = none (t .reader)
+tookAs t (Take.Refused n) = refuses n (t .reader)
 
 abbrev pub portReader : EventReader → Reader
 portReader configured =

@@ -56,7 +56,7 @@ starts m table entries =
 -- a take agrees with what the consumer does
 abbrev pub Agrees : Memory → EventReader → Taken → Consumed → Type 0
 Agrees m r t (event trb k) = (t .answer ≡ Take.Event) × (t .trb ≡ trb) × StandsAt m (t .reader .state) k × SameTable (r .state) (t .reader .state)
-Agrees m r t none = t ≡ nothingAt r
+Agrees m r t none = (t .answer ≡ Take.Nothing) × (t .trb ≡ replicate 16 0) × (t .reader ≡ r)
 
 -- ---- a step
 
@@ -139,7 +139,7 @@ take-follows m r k at z =
   where
     go : (fresh : Bool) → Agrees m r (given m r fresh) (cond fresh (event (trbAt m (dequeue m (r .state .table) (r .state .entries) k)) (onward m (r .state .table) (r .state .entries) k)) none)
     go true = (refl, ap (trbAt m) (at .place), steps m (r .state) k (limits (r .state) (take-passes m r z .0)) at, same-table m (r .state))
-    go false = refl
+    go false = (refl, refl, refl)
 
 -- a stale slot is nothing, and no entry is looked at for it
 pub stale-is-nothing : (m : Memory) (r : EventReader) → okState (r .state) ≡ true → inside m (r .state .place) 16 ≡ true
