@@ -8,9 +8,9 @@ use native.Mathlib.Omega.{arith}
 use lib.ListN.{length, getD, replicate, getD-replicate}
 use lib.Seq.{getD-append-add}
 use Rattle.guest.specs.Memory.{Memory, byte, inside, le}
-use Rattle.event_ring.specs.Ring.{empty, entryAt, goodEntry, readerAt}
+use Rattle.event_ring.specs.Ring.{empty, entryAt, readerAt}
 use Rattle.delivery.proofs.Demand3.{demand3}
-use Rattle.delivery.specs.Demand3.{Setup, base, size, Apart, Premises, Outside, Demand3, Statement}
+use Rattle.delivery.specs.Demand3.{Setup, base, size, Apart, Segment, Premises, Outside, Demand3, Statement}
 
 -- an entry whose base is 0x100 plus lo
 abbrev entry : ℕ → ℕ → List ℕ
@@ -40,14 +40,20 @@ unfolding entryAt le
 one-zeros zero h i u = behind (entry 0 2) 0x110 (256 + i) (omega arith) (omega arith)
 one-zeros (suc j) h i u = absurd (omega arith)
 
+one-good : (j : ℕ) → j < 1 → Segment one j
+unfolding inside entryAt le
+one-good zero h = record { aligned = refl; some = omega arith; most = omega arith; within = refl }
+one-good (suc j) h = absurd (omega arith)
+
 pub one-met : Premises one
-unfolding inside goodEntry entryAt le
+unfolding inside
 one-met =
     record {
       aligned = refl;
-      counted = refl;
+      some = omega arith;
+      most = omega arith;
       within = refl;
-      good = λ j h. rw (only j h);
+      good = one-good;
       zeros = one-zeros;
       segments = λ j k h l n. absurd (omega arith);
     }
@@ -63,10 +69,10 @@ two-zeros zero h i u = behind (entry 0x40 1 ++ entry 0 3) 0x130 (320 + i) (omega
 two-zeros (suc zero) h i u = behind (entry 0x40 1 ++ entry 0 3) 0x130 (256 + i) (omega arith) (omega arith)
 two-zeros (suc (suc j)) h i u = absurd (omega arith)
 
-two-good : (j : ℕ) → j < 2 → goodEntry (two .mem) (entryAt (two .mem) (0 + 16 * j)) ≡ true
-unfolding inside goodEntry entryAt le
-two-good zero h = refl
-two-good (suc zero) h = refl
+two-good : (j : ℕ) → j < 2 → Segment two j
+unfolding inside entryAt le
+two-good zero h = record { aligned = refl; some = omega arith; most = omega arith; within = refl }
+two-good (suc zero) h = record { aligned = refl; some = omega arith; most = omega arith; within = refl }
 two-good (suc (suc j)) h = absurd (omega arith)
 
 two-segments : (j k : ℕ) → j < 2 → k < 2 → j ≢ k → Apart (base two j) (16 * size two j) (base two k) (16 * size two k)
@@ -84,14 +90,15 @@ unfolding inside
 two-met =
     record {
       aligned = refl;
-      counted = refl;
+      some = omega arith;
+      most = omega arith;
       within = refl;
       good = two-good;
       zeros = two-zeros;
       segments = two-segments;
     }
 
--- so demand 3 holds of both, and something may be done to them: the bytes behind the first segment change
+-- so demand 3 holds of both; and there are bytes that may change: those between the first one's table and segment
 pub one-delivered : Demand3 one
 unfolding Statement
 one-delivered = demand3 one one-met

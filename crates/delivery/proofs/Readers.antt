@@ -21,7 +21,7 @@ use Rattle.event_ring.proofs.Laws.{limits}
 use Rattle.event_ring.proofs.Standard.{StandsAt, steps}
 use Rattle.delivery.specs.Demand3.{Setup, base, size, Premises}
 use Rattle.delivery.specs.World.{Found, found, none, Reader, standardReader, portReader, consumed, tookAs}
-use Rattle.delivery.proofs.Walk.{walk, at, on, good-at, some, first}
+use Rattle.delivery.proofs.Walk.{walk, at, on, good-at, first}
 use Rattle.delivery.proofs.Sound.{Sound, Kept, sound, next-walk, table-entry, take-passes, configures}
 
 fresh-yes : (b c : Bool) → b ≡ c → Bool·beq b c ≡ true

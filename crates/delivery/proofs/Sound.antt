@@ -23,7 +23,7 @@ use Rattle.event_ring.specs.declared.EventRing.{EventRing}
 use Rattle.event_ring.proofs.Laws.{judge-then}
 use Rattle.delivery.specs.Demand3.{Setup, base, size, Premises}
 use Rattle.delivery.proofs.Memory.{Same, entry-same}
-use Rattle.delivery.proofs.Walk.{walk, at, on, good-at, some}
+use Rattle.delivery.proofs.Walk.{walk, at, on, good-at, entry-good, entries-counted}
 
 -- ---- a ring in order: its state keeps its limits, its slot is inside, and the next entry is as it must be
 
@@ -84,10 +84,10 @@ module _ (s : Setup) (W : Premises s) where
   configures = (
     eq-eqb (s .table % 64) 0 (W .aligned),
     (
-      W .counted,
+      entries-counted s W,
       (
         W .within,
-        (rw (← add-zero (s .table)) (W .good 0 (some s W)), tt),
+        (rw (← add-zero (s .table)) (entry-good s W 0 (W .some)), tt),
       ),
     ),
   )
@@ -118,7 +118,7 @@ module _ (s : Setup) (W : Premises s) (m : Memory) (K : Kept s m) where
       record {
         state =
             rw (
-              W .counted,
+              entries-counted s W,
               lt-ltb j (s .entries) jn,
               le-leb 1 (size s j - i) (omega arith),
               le-leb (size s j - i) 4096 (omega (arith, g .few)),
@@ -128,7 +128,7 @@ module _ (s : Setup) (W : Premises s) (m : Memory) (K : Kept s m) where
         slot = inside-part (base s j) (16 * size s j) (16 * i) (g .memory) (omega arith);
         next = (
           inside-part (s .table) (16 * s .entries) (16 * k) (W .within) (omega arith),
-          (rw (table-entry k kn) (good-same (s .mem) m (entryOf (s .mem) (s .table) k) (K .len) (W .good k kn)), tt),
+          (rw (table-entry k kn) (good-same (s .mem) m (entryOf (s .mem) (s .table) k) (K .len) (entry-good s W k kn)), tt),
         );
       }
 

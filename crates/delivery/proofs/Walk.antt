@@ -10,15 +10,13 @@ use native.Mathlib.Numerals.{add-one}
 use native.Mathlib.Nat.{zero-add, suc-add, add-zero}
 use native.Mathlib.Decide.{ℕ-discrete, decLt}
 use lib.ListN.{length}
-use lib.Dec.{eqb, leb}
-use borrow.Author.Tests.{eq-eqb, ne-eqb, leb-true, eqb-true}
+use lib.Dec.{eqb}
+use borrow.Author.Tests.{eq-eqb, ne-eqb, le-leb}
 use Rattle.guest.specs.Memory.{Memory, byte, inside, trbAt}
-use Rattle.guest.proofs.Tests.{both}
 use Rattle.guest.proofs.Memory.{inside-le}
 use Rattle.trb.specs.Trb.{cycleOf}
-use Rattle.event_ring.specs.Ring.{entryAt, entryOf, goodEntry, last, nextIndex, entered, along, nextState, started}
+use Rattle.event_ring.specs.Ring.{entryAt, entryOf, goodEntry, countOk, last, nextIndex, entered, along, nextState, started}
 use Rattle.event_ring.specs.declared.EventRing.{EventRing}
-use Rattle.event_ring.proofs.Laws.{counted}
 use Rattle.delivery.specs.Demand3.{Setup, base, size, slotsBefore, slots, Apart, Premises}
 use Rattle.delivery.proofs.Memory.{zero-cycle}
 
@@ -57,24 +55,25 @@ pub record GoodEntry (s : Setup) (j : ℕ) : Type 0 where
 
 module _ (s : Setup) (W : Premises s) where
   pub good-at : (j : ℕ) → j < s .entries → GoodEntry s j
-  unfolding goodEntry
   good-at j h =
-      let a = both _ (inside (s .mem) (base s j) (16 * size s j)) (W .good j h) in
-      let b = both _ (leb (size s j) 4096) (a .0) in
-      let c = both _ (leb 1 (size s j)) (b .0) in
+      let g = W .good j h in
       record {
-        aligned = eqb-true _ _ (c .0);
-        some = leb-true _ _ (c .1);
-        few = leb-true _ _ (b .1);
-        within = inside-le (s .mem) (base s j) (16 * size s j) (a .1);
-        memory = a .1;
+        aligned = g .aligned;
+        some = g .some;
+        few = g .most;
+        within = inside-le (s .mem) (base s j) (16 * size s j) (g .within);
+        memory = g .within;
       }
 
-  pub some : 1 ≤ s .entries
-  some = counted (s .entries) (W .counted) .0
+  -- what the ring's tests say of it
+  pub entry-good : (j : ℕ) → j < s .entries → goodEntry (s .mem) (entryOf (s .mem) (s .table) j) ≡ true
+  unfolding goodEntry
+  entry-good j h =
+      let g = W .good j h in
+      rw (eq-eqb (base s j % 64) 0 (g .aligned), le-leb 1 (size s j) (g .some), le-leb (size s j) 4096 (g .most), g .within)
 
-  pub few : s .entries ≤ 16
-  few = counted (s .entries) (W .counted) .1
+  pub entries-counted : countOk (s .entries) ≡ true
+  entries-counted = rw (le-leb 1 (s .entries) (W .some), le-leb (s .entries) 16 (W .most))
 
   -- ---- one step
 
@@ -147,7 +146,7 @@ module _ (s : Setup) (W : Premises s) where
 
   pub on : (p : ℕ) → On (walk s p)
   unfolding walk
-  on zero = record { seg = 0; off = 0; cyc = true; seg< = some; off< = good-at 0 (some) .some; is = first }
+  on zero = record { seg = 0; off = 0; cyc = true; seg< = W .some; off< = good-at 0 (W .some) .some; is = first }
   on (suc p) =
       let o = on p in
       let t = stepped (o .seg) (o .off) (o .cyc) (o .seg<) (o .off<) in
@@ -182,7 +181,7 @@ module _ (s : Setup) (W : Premises s) where
 
   pub lap : (p : ℕ) → p < slots s → Lap p
   unfolding walk slotsBefore
-  lap zero h = record { seg = 0; off = 0; seg< = some; off< = good-at 0 (some) .some; is = first; nth = refl }
+  lap zero h = record { seg = 0; off = 0; seg< = W .some; off< = good-at 0 (W .some) .some; is = first; nth = refl }
   lap (suc p) h = go (lap p (omega arith))
     where
       go : Lap p → Lap (suc p)
@@ -203,7 +202,7 @@ module _ (s : Setup) (W : Premises s) where
   -- ---- a lap later
 
   pub some-slots : 1 ≤ slots s
-  some-slots = omega (arith, below 0 0 (some) (good-at 0 (some) .some))
+  some-slots = omega (arith, below 0 0 (W .some) (good-at 0 (W .some) .some))
 
   turn : (p : ℕ) → suc p ≡ slots s → walk s (suc p) ≡ flip (walk s 0)
   unfolding walk at

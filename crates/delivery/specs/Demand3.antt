@@ -8,7 +8,7 @@ use mathlib.Core.List.{List, [], _∷_}
 use lib.ListN.{length}
 use Rattle.guest.specs.Memory.{Memory, byte, inside}
 use Rattle.trb.specs.Events.{Typed}
-use Rattle.event_ring.specs.Ring.{entryOf, goodEntry, countOk, configured, readerConfigured}
+use Rattle.event_ring.specs.Ring.{entryOf, configured, readerConfigured}
 use Rattle.event_ring.specs.declared.EventRing.{EventRing}
 use Rattle.event_ring.specs.declared.EventReader.{EventReader}
 use Rattle.delivery.specs.Plain.{Op, adds, takes, reports, changes, answers, final, Plain, listMachine}
@@ -41,13 +41,22 @@ slots s = slotsBefore s (s .entries)
 abbrev pub Apart : ℕ → ℕ → ℕ → ℕ → Type 0
 Apart a k b l = (a + k ≤ b) ⊎ (b + l ≤ a)
 
+-- entry j is as refusal 5 allows
+pub record Segment (s : Setup) (j : ℕ) : Type 0 where
+  pub aligned : base s j % 64 ≡ 0
+  pub some : 1 ≤ size s j
+  pub most : size s j ≤ 4096
+  pub within : inside (s .mem) (base s j) (16 * size s j) ≡ true
+
+-- said in numbers and not by the ring's own tests, so that a slip in those is a slip on one side only
 pub record Premises (s : Setup) : Type 0 where
-  -- the table is as refusals 2, 3 and 1 allow, and every entry as refusal 5 does
+  -- the table is as refusals 2, 3 and 1 allow
   pub aligned : s .table % 64 ≡ 0
-  pub counted : countOk (s .entries) ≡ true
+  pub some : 1 ≤ s .entries
+  pub most : s .entries ≤ 16
   pub within : inside (s .mem) (s .table) (16 * s .entries) ≡ true
-  pub good : (j : ℕ) → j < s .entries → goodEntry (s .mem) (entryOf (s .mem) (s .table) j) ≡ true
-  -- the segments are zero, and apart from each other (that they are apart from the table follows)
+  pub good : (j : ℕ) → j < s .entries → Segment s j
+  -- the segments are zero, and apart from each other; that they are apart from the table follows
   pub zeros : (j : ℕ) → j < s .entries → (i : ℕ) → i < 16 * size s j → byte (s .mem) (base s j + i) ≡ 0
   pub segments : (j k : ℕ) → j < s .entries → k < s .entries → j ≢ k → Apart (base s j) (16 * size s j) (base s k) (16 * size s k)
 

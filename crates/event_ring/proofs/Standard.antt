@@ -1,4 +1,4 @@
--- The port's reader follows the standard's consumer (xHCI 4.9.4) wherever it refuses nothing. Assumes nothing.
+-- The port's reader, where it stands as a consumer does, follows the standard's consumer (xHCI 4.9.4) wherever it refuses nothing.
 use Prim.{tt}
 use Prim.Native.Nat.{ℕ, _+_, _*_, _≤_, _<_}
 use mathlib.Core.Path.{_≡_, refl, sym, ap, ap₂, _∙_}
@@ -129,7 +129,8 @@ module _ (m : Memory) (r : EventReader) where
   unfolding take
   take-gives = answer-given (λ (t : Taken). numberOf (t .answer)) (takeTests m (r .state)) take-numbered (takeRefused r) (given (freshOf m (r .state))) (λ n. refl) (given-number (freshOf m (r .state))) (take m r) refl
 
--- the port's reader, where it refuses nothing, does what the consumer does, and stands where the consumer then stands
+-- the port's reader, standing where a consumer does and refusing nothing, does what the consumer does, and stands where the consumer then
+-- stands
 pub take-follows : (m : Memory) (r : EventReader) (k : Consumer) → StandsAt m (r .state) k → numberOf (take m r .answer) ≡ 0
     → Agrees m r (take m r) (consume m (r .state .table) (r .state .entries) k)
 take-follows m r k at z =
