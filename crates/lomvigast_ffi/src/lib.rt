@@ -1,0 +1,2 @@
+// The library over the C calling convention. Each export calls one public function of the crates below and answers with a flat record.
+pub mod linked;
