@@ -1,1 +1,3 @@
+pub mod Events
 pub mod Linked
+pub mod Rings

@@ -1,2 +1,4 @@
 // The library over the C calling convention. Each export calls one public function of the crates below and answers with a flat record.
+pub mod events;
 pub mod linked;
+pub mod rings;
