@@ -1,3 +1,5 @@
+pub mod Commands
 pub mod Events
 pub mod Linked
 pub mod Rings
+pub mod Transfers
