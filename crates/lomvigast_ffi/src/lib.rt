@@ -2,5 +2,8 @@
 pub mod commands;
 pub mod events;
 pub mod linked;
+pub mod memory;
+pub mod numbers;
+pub mod parts;
 pub mod rings;
 pub mod transfers;
