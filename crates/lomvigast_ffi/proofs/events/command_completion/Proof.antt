@@ -1,0 +1,15 @@
+-- By whether the code is listed. Assumes nothing.
+use borrow.Author.Needs.{needs}
+use Rattle.lomvigast_ffi.proofs.events.command_completion.Statement.{statement}
+use Rattle.lomvigast_ffi.proofs.events.command_completion.Tie as tie
+
+pub command-completion-spec : {M : Type 1} → statement M
+command-completion-spec =
+    tie.close
+    (tie.spec
+    (λ c κs. search needs)
+    (λ c. search needs)
+    (λ c. search needs)
+    (λ c κs. search needs)
+    (λ c. rw (c .refuse .ensures, ← c .before .before .before .code-of .ensures, c .before .enum-told .given .1))
+    (λ c. rw (← c .before .before .before .code-of .ensures, c .before .completion-code .given .1)))

@@ -1,0 +1,85 @@
+// Guest memory by address.
+use crate::events::CTrb;
+use guest::Number;
+ghost use mathlib.Core.Path.{_≡_};
+ghost use Rattle.guest.specs.Memory.{inside};
+ghost use Rattle.guest.specs.Answers.{numberAt, trbRead, writeNumber, writeMemory, numberOf};
+ghost use Rattle.lomvigast_ffi.specs.Events.{flatBytes};
+ghost use Rattle.lomvigast_ffi.specs.Memory.{valueOf, flatNumber};
+
+// A value, with refusal 0; or a refusal, with 0.
+#[repr(C)]
+pub struct CNumber {
+    pub value: u64,
+    pub refusal: u8,
+}
+
+fn refused(number: Number) -> u8
+    ensures { λ r. ⌜ r ≡ numberOf number ⌝ }
+{
+    match number {
+        Number::Value(_) => 0,
+        Number::Refused(n) => n,
+    }
+}
+
+fn value(number: Number) -> u64
+    ensures { λ r. ⌜ r ≡ valueOf number ⌝ }
+{
+    match number {
+        Number::Value(v) => v,
+        Number::Refused(_) => 0,
+    }
+}
+
+fn flat_number(number: Number) -> CNumber
+    ensures { λ r. ⌜ r ≡ flatNumber number ⌝ }
+{
+    CNumber {
+        value: value(number),
+        refusal: refused(number),
+    }
+}
+
+#[no_mangle]
+pub extern "C" fn lomvigast_inside(mem: &[u8], address: u64, length: u64) -> bool
+    ensures { λ r. ⌜ r ≡ inside (now (mem .entry)) address length ⌝ }
+{
+    guest::inside(mem, address, length)
+}
+
+#[no_mangle]
+pub extern "C" fn lomvigast_read2(mem: &[u8], address: u64) -> CNumber
+    ensures { λ r. ⌜ r ≡ flatNumber (numberAt (now (mem .entry)) address 2) ⌝ }
+{
+    flat_number(guest::read2(mem, address))
+}
+
+#[no_mangle]
+pub extern "C" fn lomvigast_read4(mem: &[u8], address: u64) -> CNumber
+    ensures { λ r. ⌜ r ≡ flatNumber (numberAt (now (mem .entry)) address 4) ⌝ }
+{
+    flat_number(guest::read4(mem, address))
+}
+
+#[no_mangle]
+pub extern "C" fn lomvigast_read8(mem: &[u8], address: u64) -> CNumber
+    ensures { λ r. ⌜ r ≡ flatNumber (numberAt (now (mem .entry)) address 8) ⌝ }
+{
+    flat_number(guest::read8(mem, address))
+}
+
+#[no_mangle]
+pub extern "C" fn lomvigast_read_trb(mem: &[u8], address: u64) -> CTrb
+    ensures { λ r. ⌜ r ≡ flatBytes (trbRead (now (mem .entry)) address) ⌝ }
+{
+    crate::events::flat_bytes(guest::read_trb(mem, address))
+}
+
+#[no_mangle]
+pub extern "C" fn lomvigast_write_trb(mem: &mut [u8], address: u64, trb: &[u8; 16]) -> u8
+    ensures { λ r. ⌜ (r ≡ writeNumber (now (mem .entry)) address) × (now (mem .exit) ≡ writeMemory (now (mem .entry)) address (now (trb .entry))) ⌝ }
+{
+    let bytes = *trb;
+    guest::write_trb(mem, address, bytes)
+}
