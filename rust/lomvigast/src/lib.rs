@@ -1,0 +1,43 @@
+//! The ring core of an xHCI device emulation, proved, under usbvfiod's names.
+//!
+//! Every function here is a thin cover over one function of an archive in which each function is proved to meet its
+//! contract (crates/lomvigast_ffi). No input is outside a contract: a call answers, or refuses with a [`Refusal`] that has a
+//! number and a sentence, and a refusal changes no byte of guest memory and no ring.
+//!
+//! What the guest shares is lent for one call as [`GuestMemory`] or [`GuestMemoryMut`].
+//!
+//! ```
+//! use lomvigast::linked_ring::{Answer, LinkedRing};
+//! use lomvigast::GuestMemory;
+//!
+//! // A Link TRB (type 6) with cycle bit 1 that leads to itself.
+//! let mut bytes = [0; 16];
+//! bytes[12] = 1;
+//! bytes[13] = 6 << 2;
+//!
+//! let mut ring = LinkedRing::new(0, true);
+//! let chase = ring.next_trb(GuestMemory::new(&bytes))?;
+//! assert_eq!(chase.answer, Answer::TooManyLinks); // and never "nothing new"
+//! assert_eq!(chase.notes.links, 256);
+//!
+//! // The same ring in a guest that lends fifteen bytes: refused, and the ring is where it was.
+//! let refusal = ring.next_trb(GuestMemory::new(&bytes[..15])).unwrap_err();
+//! assert_eq!(refusal.number(), 1);
+//! # Ok::<(), lomvigast::Refusal>(())
+//! ```
+
+#![deny(missing_docs)]
+#![deny(unsafe_op_in_unsafe_fn)]
+// Everything unsafe stands in `ffi`.
+#![deny(unsafe_code)]
+
+pub mod event_ring;
+#[allow(unsafe_code)]
+mod ffi;
+pub mod linked_ring;
+mod memory;
+mod refusal;
+pub mod trb;
+
+pub use memory::{GuestMemory, GuestMemoryMut};
+pub use refusal::Refusal;
