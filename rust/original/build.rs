@@ -18,6 +18,7 @@ fn main() {
         return;
     }
     println!("cargo:rustc-cfg=at_hand");
+    println!("cargo:at_hand=yes");
     println!(
         "cargo:rustc-env=ORIGINAL_EVENT_RING={}",
         event_ring.display()

@@ -38,6 +38,14 @@ pub mod device {
                         cycle: self.cycle_state,
                     }
                 }
+
+                /// Puts back a state that it held.
+                pub fn restore(&mut self, state: State) {
+                    self.enqueue_pointer = state.place;
+                    self.trb_count = state.remaining;
+                    self.erst_count = state.index;
+                    self.cycle_state = state.cycle;
+                }
             }
         }
     }

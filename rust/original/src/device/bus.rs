@@ -1,6 +1,6 @@
 //! Stands in for usbvfiod's bus: guest memory, whose address 0 is byte 0. An access outside it is counted, reads 0 and writes nothing.
 
-use std::cell::{Cell, RefCell};
+use std::cell::{Cell, Ref, RefCell};
 use std::rc::Rc;
 
 pub type BusDeviceRef = Rc<Memory>;
@@ -38,6 +38,7 @@ impl Request {
 pub struct Memory {
     bytes: RefCell<Vec<u8>>,
     outside: Cell<u64>,
+    bulk_reads: Cell<u64>,
 }
 
 impl Memory {
@@ -45,12 +46,18 @@ impl Memory {
         Rc::new(Self {
             bytes: RefCell::new(bytes),
             outside: Cell::new(0),
+            bulk_reads: Cell::new(0),
         })
     }
 
     /// The memory as it is now.
-    pub fn bytes(&self) -> Vec<u8> {
-        self.bytes.borrow().clone()
+    pub fn bytes(&self) -> Ref<'_, Vec<u8>> {
+        self.bytes.borrow()
+    }
+
+    /// Puts other bytes in place of all there are, without a new allocation where the length is the same.
+    pub fn fill(&self, bytes: &[u8]) {
+        bytes.clone_into(&mut self.bytes.borrow_mut());
     }
 
     /// How many accesses fell outside since the last call.
@@ -58,9 +65,16 @@ impl Memory {
         self.outside.take()
     }
 
+    /// How many bulk reads there were since the last call.
+    pub fn bulk_reads(&self) -> u64 {
+        self.bulk_reads.take()
+    }
+
     pub fn read(&self, request: Request) -> u64 {
         let mut value = [0; 8];
-        self.read_bulk(request.addr, &mut value[..request.length()]);
+        self.with_part(request.addr, request.length(), |part| {
+            value[..part.len()].copy_from_slice(part)
+        });
         u64::from_le_bytes(value)
     }
 
@@ -69,6 +83,7 @@ impl Memory {
     }
 
     pub fn read_bulk(&self, addr: u64, data: &mut [u8]) {
+        self.bulk_reads.set(self.bulk_reads.get() + 1);
         self.with_part(addr, data.len(), |part| data.copy_from_slice(part));
     }
 

@@ -1,0 +1,251 @@
+//! The link-following reader.
+
+use super::books;
+use crate::random::Random;
+use crate::tally::Tally;
+use lomvigast::linked_ring::LinkedRing;
+use lomvigast::{GuestMemory, Refusal};
+use original::device::bus::{BusDeviceRef, Memory};
+use original::device::xhci::linked_ring::LinkedRing as Original;
+
+const LINK: u8 = 6;
+const TOGGLE: u8 = 0x02;
+const COMPLETION: u8 = 0x20;
+
+/// A Link with the flags of its byte 12, the cycle bit among them.
+fn link(pointer: u64, flags: u8) -> [u8; 16] {
+    let mut trb = [0; 16];
+    trb[..8].copy_from_slice(&pointer.to_le_bytes());
+    trb[12] = flags;
+    trb[13] = LINK << 2;
+    trb
+}
+
+/// A Normal TRB that can be told from others.
+fn other(mark: u8, cycle: bool) -> [u8; 16] {
+    [
+        mark,
+        1,
+        2,
+        3,
+        4,
+        5,
+        6,
+        7,
+        8,
+        9,
+        10,
+        11,
+        u8::from(cycle),
+        1 << 2,
+        14,
+        15,
+    ]
+}
+
+/// One memory for both.
+struct Stage {
+    bus: BusDeviceRef,
+    bytes: Vec<u8>,
+}
+
+impl Stage {
+    fn new() -> Self {
+        Self {
+            bus: Memory::new(Vec::new()),
+            bytes: Vec::new(),
+        }
+    }
+
+    fn fill(&mut self, bytes: &[u8]) {
+        self.bus.fill(bytes);
+        bytes.clone_into(&mut self.bytes);
+    }
+
+    /// Chases from a place, and holds answer, notes, place, state and every byte of memory.
+    fn hold(&self, tally: &mut Tally, place: u64, cycle: bool) {
+        let mut port = LinkedRing::new(place, cycle);
+        let ours = port.next_trb(GuestMemory::new(&self.bytes));
+        let mut original = Original::new(self.bus.clone(), place, cycle);
+        let theirs = books::chase(&self.bus, &mut original);
+        let end = original.get_dequeue_pointer();
+        // Of a stale TRB the original looks at one byte, the port at all sixteen.
+        let last = usize::try_from(end.0)
+            .ok()
+            .and_then(|at| self.bytes.get(at..)?.get(..16));
+        let input = (place, cycle, &self.bytes);
+        if self.bus.outside() != 0 || last.is_none() {
+            tally.outside("a byte to be touched is not in memory: refused with 1 here");
+            let refused = (Err(Refusal::Outside), (place, cycle));
+            tally.hold(&input, refused, (ours, port.get_dequeue_pointer()));
+        } else {
+            tally.hold(
+                &input,
+                (Ok(theirs), end),
+                (ours, port.get_dequeue_pointer()),
+            );
+        }
+        tally.hold(&input, true, *self.bus.bytes() == self.bytes);
+    }
+
+    fn hold_all(&self, tally: &mut Tally, places: impl Iterator<Item = u64>) {
+        for place in places {
+            self.hold(tally, place, false);
+            self.hold(tally, place, true);
+        }
+    }
+}
+
+/// Every memory of so many slots, each slot any TRB of an alphabet; from each slot, with both states.
+///
+/// The alphabet: a Link to each slot with every choice of `flags` (and, where one of them is `bits`, low pointer bits set),
+/// and a Normal TRB; each with both cycle bits.
+pub fn every_memory(slots: usize, notes: bool) -> Tally {
+    let mut tally = Tally::new("chases, every small memory");
+    let alphabet = alphabet(slots as u64, notes);
+    let mut stage = Stage::new();
+    for number in 0..alphabet.len().pow(slots as u32) {
+        let mut rest = number;
+        let mut bytes = Vec::with_capacity(16 * slots);
+        for _ in 0..slots {
+            bytes.extend(alphabet[rest % alphabet.len()]);
+            rest /= alphabet.len();
+        }
+        stage.fill(&bytes);
+        stage.hold_all(&mut tally, (0..slots as u64).map(|slot| 16 * slot));
+    }
+    tally
+}
+
+fn alphabet(slots: u64, notes: bool) -> Vec<[u8; 16]> {
+    let mut alphabet = vec![other(0x81, false), other(0x82, true)];
+    let variants: &[(u64, u8)] = if notes {
+        &[(0, 0), (8, 0), (0, COMPLETION), (15, COMPLETION)]
+    } else {
+        &[(0, 0)]
+    };
+    for slot in 0..slots {
+        for flags in [0, 1, TOGGLE, TOGGLE | 1] {
+            let links = variants
+                .iter()
+                .map(|(bits, more)| link(16 * slot | bits, flags | more));
+            alphabet.extend(links);
+        }
+    }
+    alphabet
+}
+
+/// Few slots, any bytes, unaligned places, and Links that lead just over the end.
+pub fn small(random: &mut Random, count: u64) -> Tally {
+    let mut tally = Tally::new("chases, small random memories");
+    let mut stage = Stage::new();
+    for _ in 0..count {
+        let slots = random.between(1, 8);
+        let bytes: Vec<u8> = (0..slots).flat_map(|_| any(random, slots)).collect();
+        let length = bytes.len() as u64 - random.below(16) * u64::from(random.once_in(4));
+        stage.fill(&bytes[..length as usize]);
+        let unaligned = random.below(16) * u64::from(random.once_in(4));
+        stage.hold(
+            &mut tally,
+            16 * random.below(slots) + unaligned,
+            random.once_in(2),
+        );
+    }
+    tally
+}
+
+fn any(random: &mut Random, slots: u64) -> [u8; 16] {
+    let mut trb = random.trb();
+    if !random.once_in(4) {
+        let far = u64::from(random.once_in(40));
+        let bits = random.below(16) * u64::from(random.once_in(3));
+        let pointer = 16 * random.below(slots + far) + bits;
+        trb[..8].copy_from_slice(&pointer.to_le_bytes());
+        trb[13] = LINK << 2 | trb[13] & 3;
+        trb[12] &= !TOGGLE | TOGGLE * u8::from(random.once_in(4));
+    }
+    trb
+}
+
+/// 250 to 260 Links one after another, in any order in memory, that are followed by a TRB, a stale one, or the first Link.
+pub fn long(random: &mut Random, count: u64) -> Tally {
+    let mut tally = Tally::new("chases of 250 to 260 links");
+    let mut stage = Stage::new();
+    for _ in 0..count {
+        let links = random.between(250, 260);
+        let start = random.once_in(2);
+        let (bytes, place) = chain(random, links, start);
+        stage.fill(&bytes);
+        stage.hold(&mut tally, place, start);
+    }
+    tally
+}
+
+/// A memory with a chain of Links, each fresh when it is come to, and where the chain begins.
+fn chain(random: &mut Random, links: u64, mut state: bool) -> (Vec<u8>, u64) {
+    let mut slots: Vec<u64> = (0..=links).map(|slot| 16 * slot).collect();
+    for last in (1..slots.len()).rev() {
+        slots.swap(last, random.below(last as u64 + 1) as usize);
+    }
+    let toggles = random.pick(&[1, 2, 1000]);
+    let noted = random.pick(&[1, 300]);
+    let mut bytes = vec![0; 16 * slots.len()];
+    for pair in slots.windows(2) {
+        let bits = random.below(16) * u64::from(random.once_in(noted));
+        let completion = COMPLETION * u8::from(random.once_in(noted));
+        let toggle = random.once_in(toggles);
+        let flags = TOGGLE * u8::from(toggle) | completion | u8::from(state);
+        bytes[pair[0] as usize..][..16].copy_from_slice(&link(pair[1] | bits, flags));
+        state ^= toggle;
+    }
+    let end = match random.below(3) {
+        0 => other(1, state),
+        1 => other(2, !state),
+        _ => link(slots[0], u8::from(state)),
+    };
+    bytes[slots[links as usize] as usize..][..16].copy_from_slice(&end);
+    (bytes, slots[0])
+}
+
+/// Places at every boundary of memory, by itself and by a Link.
+pub fn boundaries() -> Tally {
+    let mut tally = Tally::new("chases at memory's boundaries");
+    let mut stage = Stage::new();
+    for length in 0..=48u64 {
+        for fill in [[0; 16], [0xff; 16], other(3, true)] {
+            let mut bytes: Vec<u8> = fill.into_iter().cycle().take(length as usize).collect();
+            stage.fill(&bytes);
+            let ends = (0..=length + 2).chain(u64::MAX - 32..=u64::MAX);
+            stage.hold_all(&mut tally, ends.clone());
+            for pointer in ends.filter(|_| length >= 16) {
+                bytes[..16].copy_from_slice(&link(pointer, 1));
+                stage.fill(&bytes);
+                stage.hold(&mut tally, 0, true);
+            }
+        }
+    }
+    tally
+}
+
+/// Advance and set place, at 2^64 too.
+pub fn steps(random: &mut Random, count: u64) -> Tally {
+    let mut tally = Tally::new("advance and set place");
+    let bus = Memory::new(Vec::new());
+    let (mut port, mut original) = (LinkedRing::new(0, false), Original::new(bus, 0, false));
+    for _ in 0..count {
+        let near = u64::MAX - random.below(64);
+        let any = random.next();
+        let place = random.pick(&[near, near.wrapping_mul(16), any]);
+        let cycle = random.once_in(2);
+        if random.once_in(4) {
+            port.set_dequeue_pointer(place, cycle);
+            original.set_dequeue_pointer(place, cycle);
+        } else {
+            port.advance();
+            original.advance();
+        }
+        let both = (original.get_dequeue_pointer(), port.get_dequeue_pointer());
+        tally.hold(&(place, cycle), both.0, both.1);
+    }
+    tally
+}

@@ -1,0 +1,215 @@
+//! The event ring.
+
+use super::books;
+use crate::inputs::{any_event, Table};
+use crate::random::Random;
+use crate::tally::Tally;
+use lomvigast::event_ring::{EventRing, RingState};
+use lomvigast::trb::EventTrb;
+use lomvigast::{GuestMemory, GuestMemoryMut, Refusal};
+use original::device::bus::{BusDeviceRef, Memory};
+use original::device::xhci::event_ring::{EventRing as Original, State};
+
+/// A ring on each side, over one table.
+struct Pair {
+    table: Table,
+    bus: BusDeviceRef,
+    bytes: Vec<u8>,
+    original: Original,
+    port: EventRing,
+}
+
+impl Pair {
+    /// Both configured, over memory that is zero, or random outside the table.
+    fn new(tally: &mut Tally, table: Table, random: Option<&mut Random>) -> Self {
+        let mut bytes = vec![0; table.length];
+        if let Some(random) = random {
+            bytes.iter_mut().for_each(|byte| *byte = random.byte());
+        }
+        table.write(&mut bytes);
+        let bus = Memory::new(bytes.clone());
+        let original = Original::new(bus.clone());
+        let port = EventRing::new();
+        let mut pair = Self {
+            table,
+            bus,
+            bytes,
+            original,
+            port,
+        };
+        pair.configure(tally);
+        pair
+    }
+
+    fn configure(&mut self, tally: &mut Tally) {
+        let (base, entries) = (self.table.base, self.table.entries());
+        self.original.configure(base, entries);
+        let ours = self
+            .port
+            .configure(GuestMemory::new(&self.bytes), base, entries);
+        tally.hold(&self.table, self.expected(), (ours, self.port.state()));
+    }
+
+    /// What the port has to hold, its call accepted: the original's state, and what it keeps of the table.
+    fn expected(&self) -> (Result<(), Refusal>, RingState) {
+        let State {
+            place,
+            remaining,
+            index,
+            cycle,
+        } = self.original.state();
+        let state = RingState {
+            ready: true,
+            table: self.table.base,
+            entries: self.table.entries(),
+            index,
+            place,
+            remaining,
+            cycle,
+        };
+        (Ok(()), state)
+    }
+
+    /// Adds to both; a panic of the original's, at its `todo!`, is refusal 7.
+    fn add(&mut self, tally: &mut Tally, event: &EventTrb, report: u64) {
+        let theirs = books::original_event(event);
+        let (base, entries) = (self.table.base, self.table.entries());
+        let original = &mut self.original;
+        let enqueue = || original.enqueue(&theirs, entries, base, report);
+        let full = books::unless_panicked(enqueue).is_none();
+        let ours = self
+            .port
+            .enqueue(&mut GuestMemoryMut::new(&mut self.bytes), event, report);
+        let (mut answer, state) = self.expected();
+        if full {
+            answer = Err(Refusal::Full);
+        }
+        let input = (&self.table, event, report);
+        tally.hold(&input, (answer, state), (ours, self.port.state()));
+    }
+
+    /// Every byte of memory, and that the original stayed inside it.
+    fn hold_memory(&self, tally: &mut Tally) {
+        let same = (*self.bus.bytes() == self.bytes, self.bus.outside());
+        tally.hold(&(&self.table, self.port), (true, 0), same);
+    }
+
+    fn reset(&mut self, tally: &mut Tally) {
+        self.original.reset();
+        self.port.reset();
+        let (_, mut empty) = self.expected();
+        empty.ready = false;
+        empty.table = 0;
+        empty.entries = 0;
+        tally.hold(&self.table, empty, self.port.state());
+    }
+}
+
+/// Every sequence of ten adds and reports on every table of one to three segments of one to three slots. A report moves to
+/// the next slot, or to where the ring stands.
+pub fn every_sequence(length: usize) -> Tally {
+    let mut tally = Tally::new("adds, every short sequence");
+    for number in 0..39 {
+        let sizes = sizes(number);
+        let mut pair = Pair::new(&mut tally, Table::new(0x40, &sizes, number % 2 == 1), None);
+        let slots = pair.table.slots();
+        walk(&mut pair, &mut tally, &slots, 0, length);
+    }
+    tally
+}
+
+/// The sizes of one of the 3 + 9 + 27 tables.
+fn sizes(number: u32) -> Vec<u32> {
+    let (count, mut rest) = match number {
+        0..3 => (1, number),
+        3..12 => (2, number - 3),
+        _ => (3, number - 12),
+    };
+    let mut next = || {
+        let size = rest % 3 + 1;
+        rest /= 3;
+        size
+    };
+    (0..count).map(|_| next()).collect()
+}
+
+fn walk(pair: &mut Pair, tally: &mut Tally, slots: &[u64], reported: usize, left: usize) {
+    if left == 0 {
+        return;
+    }
+    let (bytes, state, port) = (pair.bytes.clone(), pair.original.state(), pair.port);
+    let event = EventTrb::new_port_status_change_event_trb(left as u8);
+    pair.add(tally, &event, slots[reported]);
+    pair.hold_memory(tally);
+    walk(pair, tally, slots, reported, left - 1);
+    pair.bus.fill(&bytes);
+    pair.bytes = bytes;
+    pair.original.restore(state);
+    pair.port = port;
+    let at = slots
+        .iter()
+        .position(|slot| *slot == state.place)
+        .unwrap_or(0);
+    walk(pair, tally, slots, (reported + 1) % slots.len(), left - 1);
+    walk(pair, tally, slots, at, left - 1);
+}
+
+/// Random tables, events and reports; now and then a reset and a new configure.
+pub fn any(random: &mut Random, rings: u64, most: u64, longest: u64, adds: u64) -> Tally {
+    let mut tally = Tally::new("adds, random tables");
+    for _ in 0..rings {
+        let table = Table::any(random, most, longest);
+        let mut pair = Pair::new(&mut tally, table, Some(random));
+        let slots = pair.table.slots();
+        for _ in 0..adds {
+            step(&mut pair, &mut tally, random, &slots);
+        }
+        pair.hold_memory(&mut tally);
+    }
+    tally
+}
+
+fn step(pair: &mut Pair, tally: &mut Tally, random: &mut Random, slots: &[u64]) {
+    if random.once_in(500) {
+        pair.reset(tally);
+        pair.configure(tally);
+    }
+    let event = any_event(random);
+    if event.to_bytes(true).is_err() {
+        tally.outside("an event that cannot be written: refused with 8 here");
+        return;
+    }
+    let elsewhere = random.next() & !15;
+    let slot = random.pick(slots);
+    let report = random.pick(&[slot, slot, pair.port.state().place, elsewhere]);
+    pair.add(tally, &event, report);
+    // All of a long memory only now and then.
+    if pair.bytes.len() < 0x2000 || random.once_in(64) {
+        pair.hold_memory(tally);
+    }
+}
+
+/// Configure with what it refuses: an original that panics stands for a refusal.
+pub fn refused_tables(random: &mut Random, count: u64) -> Tally {
+    let mut tally = Tally::new("configure, refused or not");
+    for _ in 0..count {
+        let table = Table::any(random, 3, 3);
+        let mut bytes = vec![0; table.length];
+        table.write(&mut bytes);
+        let base = table.base + 4 * random.below(16) * u64::from(random.once_in(2));
+        let entries = random.pick(&[0, table.entries()]);
+        let mut original = Original::new(Memory::new(bytes.clone()));
+        let taken = books::unless_panicked(|| original.configure(base, entries)).is_some();
+        let mut port = EventRing::new();
+        let ours = port.configure(GuestMemory::new(&bytes), base, entries);
+        tally.hold(&(&table, base, entries), taken, ours.is_ok());
+        let number = if base % 64 != 0 { 2 } else { 3 };
+        let refusal = ours.map_err(Refusal::number);
+        tally.hold(
+            &(&table, base, entries),
+            if taken { Ok(()) } else { Err(number) },
+            refusal,
+        );
+    }
+    tally
+}
