@@ -189,27 +189,74 @@ fn step(pair: &mut Pair, tally: &mut Tally, random: &mut Random, slots: &[u64]) 
     }
 }
 
-/// Configure with what it refuses: an original that panics stands for a refusal.
+/// Document 01's judgement of a table, in the order of its refusals.
+fn judged(bytes: &[u8], base: u64, entries: u16) -> Result<(), Refusal> {
+    let number = |at: usize, width: usize| {
+        let part = &bytes[at..at + width];
+        part.iter()
+            .rev()
+            .fold(0, |n, byte| n << 8 | u64::from(*byte))
+    };
+    let length = bytes.len() as u64;
+    if base % 64 != 0 {
+        return Err(Refusal::TableBase);
+    }
+    if entries == 0 || entries > 16 {
+        return Err(Refusal::TableEntries);
+    }
+    if base > length || length - base < 16 * u64::from(entries) {
+        return Err(Refusal::Outside);
+    }
+    let (first, size) = (number(base as usize, 8), number(base as usize + 8, 4));
+    let inside = first <= length && 16 * size <= length - first;
+    if first % 64 != 0 || size == 0 || size > 4096 || !inside {
+        return Err(Refusal::Segment);
+    }
+    Ok(())
+}
+
+/// Configure with what is refused: where the original panics, and where it goes on.
 pub fn refused_tables(random: &mut Random, count: u64) -> Tally {
     let mut tally = Tally::new("configure, refused or not");
     for _ in 0..count {
-        let table = Table::any(random, 3, 3);
+        let mut table = Table::any(random, 3, 3);
+        spoil(&mut table, random);
         let mut bytes = vec![0; table.length];
         table.write(&mut bytes);
-        let base = table.base + 4 * random.below(16) * u64::from(random.once_in(2));
-        let entries = random.pick(&[0, table.entries()]);
-        let mut original = Original::new(Memory::new(bytes.clone()));
-        let taken = books::unless_panicked(|| original.configure(base, entries)).is_some();
-        let mut port = EventRing::new();
-        let ours = port.configure(GuestMemory::new(&bytes), base, entries);
-        tally.hold(&(&table, base, entries), taken, ours.is_ok());
-        let number = if base % 64 != 0 { 2 } else { 3 };
-        let refusal = ours.map_err(Refusal::number);
-        tally.hold(
-            &(&table, base, entries),
-            if taken { Ok(()) } else { Err(number) },
-            refusal,
-        );
+        let base = table.base + 4 * random.below(16) * u64::from(random.once_in(4));
+        let entries = random.pick(&[0, 4, 16, 17, table.entries(), table.entries()]);
+        hold_table(&mut tally, &bytes, base, entries);
     }
     tally
+}
+
+/// Now and then another base or size in the first entry.
+fn spoil(table: &mut Table, random: &mut Random) {
+    let (base, size) = table.segments[0];
+    let far = table.length as u64 - 64 * random.below(3);
+    table.segments[0] = match random.below(8) {
+        0 => (base + random.below(64), size),
+        1 => (far, size),
+        2 => (random.next() & !63, size),
+        3 => (base, random.pick(&[0, 4, 5, 4096, 4097, u32::MAX])),
+        _ => (base, size),
+    };
+}
+
+fn hold_table(tally: &mut Tally, bytes: &[u8], base: u64, entries: u16) {
+    let mut port = EventRing::new();
+    let ours = port.configure(GuestMemory::new(bytes), base, entries);
+    let expected = judged(bytes, base, entries);
+    let input = (bytes, base, entries);
+    tally.hold(&input, expected, ours);
+    let bus = Memory::new(bytes.to_vec());
+    let mut original = Original::new(bus.clone());
+    let taken = books::unless_panicked(|| original.configure(base, entries)).is_some();
+    match expected {
+        Ok(()) | Err(Refusal::TableBase) => tally.hold(&input, taken, ours.is_ok()),
+        Err(Refusal::TableEntries) if entries == 0 => tally.hold(&input, taken, false),
+        Err(Refusal::TableEntries) => tally.outside("a table of more than 16 entries: 3 here"),
+        Err(Refusal::Outside) => tally.outside("a table that is not in memory: 1 here"),
+        Err(_) => tally.outside("a first segment that is not allowed: 5 here"),
+    }
 }
