@@ -79,20 +79,22 @@ fn sum(all: &[Tally], count: fn(&Tally) -> u64) -> u64 {
 /// Rounds that every run has: with what is exhaustive some 80 million comparisons, and four million operations beside the list.
 const ROUNDS: u32 = 40;
 
+/// Ends with the round in which something differs.
 fn run(options: &Options) -> Vec<Tally> {
     let mut random = Random::new(options.seed);
     let mut all = Vec::new();
     join(&mut all, compare::exhaustive(&mut random));
-    (0..ROUNDS).for_each(|_| round(&mut all, &mut random));
-    let start = Instant::now();
-    while start.elapsed() < options.soak {
+    let (start, mut rounds) = (Instant::now(), 0);
+    while rounds < ROUNDS || start.elapsed() < options.soak {
+        if sum(&all, Tally::differing) != 0 {
+            break;
+        }
         round(&mut all, &mut random);
-        let compared = sum(&all, Tally::compared);
-        let differing = sum(&all, Tally::differing);
-        println!(
-            "{:>6} s: {compared} compared, {differing} differ",
-            start.elapsed().as_secs()
-        );
+        rounds += 1;
+        if rounds > ROUNDS {
+            let seconds = start.elapsed().as_secs();
+            println!("{seconds:>6} s: {} compared", sum(&all, Tally::compared));
+        }
     }
     all
 }
