@@ -41,3 +41,8 @@ pub mod trb;
 
 pub use memory::{GuestMemory, GuestMemoryMut};
 pub use refusal::Refusal;
+
+/// The examples of docs/USBVFIOD.md.
+#[cfg(doctest)]
+#[doc = include_str!("../../../docs/USBVFIOD.md")]
+struct Page;
