@@ -1,6 +1,9 @@
 //! Runs the original and the port on the same inputs and holds everything beside each other; then the port's ring and reader
 //! beside a plain list.
 
+// Some of what they can do only the comparison asks for.
+#![cfg_attr(not(at_hand), allow(dead_code))]
+
 mod inputs;
 mod random;
 mod schedules;
@@ -57,46 +60,76 @@ mod compare {
     }
 }
 
-/// The counts of one kind under one name.
-fn join(all: &mut Vec<Tally>, more: Vec<Tally>) {
-    for tally in more {
-        match all.iter_mut().find(|known| known.name() == tally.name()) {
-            Some(known) => known.join(tally),
-            None => all.push(tally),
+/// What a run counts: the kinds held beside the original, and the port's ring and reader beside a list.
+struct Counts {
+    original: Vec<Tally>,
+    list: Tally,
+}
+
+impl Counts {
+    /// Takes up counts of the original's, each kind under one name.
+    fn join(&mut self, more: Vec<Tally>) {
+        for tally in more {
+            match self
+                .original
+                .iter_mut()
+                .find(|known| known.name() == tally.name())
+            {
+                Some(known) => known.join(tally),
+                None => self.original.push(tally),
+            }
         }
+    }
+
+    fn round(&mut self, random: &mut Random) {
+        self.join(compare::at_random(random));
+        self.list.join(schedules::any(random, 400, 300));
+    }
+
+    fn compared(&self) -> u64 {
+        self.original.iter().map(Tally::compared).sum()
+    }
+
+    fn differing(&self) -> u64 {
+        self.original.iter().map(Tally::differing).sum::<u64>() + self.list.differing()
+    }
+
+    fn print(&self) {
+        self.original.iter().for_each(Tally::print);
+        self.list.print();
+        println!(
+            "side by side: {} compared with the original, {} with a list, {} differ",
+            self.compared(),
+            self.list.compared(),
+            self.differing()
+        );
     }
 }
 
-fn round(all: &mut Vec<Tally>, random: &mut Random) {
-    join(all, compare::at_random(random));
-    join(all, vec![schedules::any(random, 400, 300)]);
-}
-
-fn sum(all: &[Tally], count: fn(&Tally) -> u64) -> u64 {
-    all.iter().map(count).sum()
-}
-
-/// Rounds that every run has: with what is exhaustive some 80 million comparisons, and four million operations beside the list.
+/// Rounds that every run has: with what is exhaustive some 75 million comparisons, and four million beside the list.
 const ROUNDS: u32 = 40;
 
 /// Ends with the round in which something differs.
-fn run(options: &Options) -> Vec<Tally> {
+fn run(options: &Options) -> Counts {
     let mut random = Random::new(options.seed);
-    let mut all = Vec::new();
-    join(&mut all, compare::exhaustive(&mut random));
+    let mut counts = Counts {
+        original: Vec::new(),
+        list: schedules::any(&mut random, 0, 0),
+    };
+    counts.join(compare::exhaustive(&mut random));
     let (start, mut rounds) = (Instant::now(), 0);
     while rounds < ROUNDS || start.elapsed() < options.soak {
-        if sum(&all, Tally::differing) != 0 {
+        if counts.differing() != 0 {
             break;
         }
-        round(&mut all, &mut random);
+        counts.round(&mut random);
         rounds += 1;
         if rounds > ROUNDS {
             let seconds = start.elapsed().as_secs();
-            println!("{seconds:>6} s: {} compared", sum(&all, Tally::compared));
+            println!("{seconds:>6} s: {} compared", counts.compared());
         }
     }
-    all
+    counts
 }
 
 fn main() -> ExitCode {
@@ -107,12 +140,7 @@ fn main() -> ExitCode {
     println!("seed {}", options.seed);
     // The original panics where it is full; such a panic is an answer.
     std::panic::set_hook(Box::new(|_| {}));
-    let all = run(&options);
-    all.iter().for_each(Tally::print);
-    let differing = sum(&all, Tally::differing);
-    println!(
-        "side by side: {} compared, {differing} differ",
-        sum(&all, Tally::compared)
-    );
-    ExitCode::from(u8::from(differing != 0))
+    let counts = run(&options);
+    counts.print();
+    ExitCode::from(u8::from(counts.differing() != 0))
 }
