@@ -109,6 +109,9 @@ impl Counts {
 /// Rounds that every run has: with what is exhaustive some 75 million comparisons, and four million beside the list.
 const ROUNDS: u32 = 40;
 
+/// So many seconds pass between two lines that tell how far a run is.
+const TELL_EVERY: u64 = 10;
+
 /// Ends with the round in which something differs.
 fn run(options: &Options) -> Counts {
     let mut random = Random::new(options.seed);
@@ -117,16 +120,17 @@ fn run(options: &Options) -> Counts {
         list: schedules::any(&mut random, 0, 0),
     };
     counts.join(compare::exhaustive(&mut random));
-    let (start, mut rounds) = (Instant::now(), 0);
+    let (start, mut rounds, mut told) = (Instant::now(), 0, 0);
     while rounds < ROUNDS || start.elapsed() < options.soak {
         if counts.differing() != 0 {
             break;
         }
         counts.round(&mut random);
         rounds += 1;
-        if rounds > ROUNDS {
-            let seconds = start.elapsed().as_secs();
+        let seconds = start.elapsed().as_secs();
+        if seconds >= told + TELL_EVERY {
             println!("{seconds:>6} s: {} compared", counts.compared());
+            told = seconds;
         }
     }
     counts
