@@ -21,14 +21,17 @@ macro_rules! alike {
     ($($trb:ident)::+) => {
         use $($trb)::+::{CommandTrbVariant, CompletionCode, EventTrb, TransferTrbVariant};
 
+        #[inline(never)]
         fn parse_command(rounds: u64) {
             each(&inputs::commands(), rounds, |trb| answer(CommandTrbVariant::parse(*trb)));
         }
 
+        #[inline(never)]
         fn parse_transfer(rounds: u64) {
             each(&inputs::transfers(), rounds, |trb| answer(TransferTrbVariant::parse(*trb)));
         }
 
+        #[inline(never)]
         fn parse_mixed(rounds: u64) {
             each(&inputs::mixed(), rounds, |(command, trb)| match command {
                 true => answer(CommandTrbVariant::parse(*trb)),
@@ -36,6 +39,7 @@ macro_rules! alike {
             });
         }
 
+        #[inline(never)]
         fn event_write(rounds: u64) {
             each(&events(), rounds, |event| answer(event.to_bytes(true)));
         }

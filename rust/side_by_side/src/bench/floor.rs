@@ -72,6 +72,7 @@ mod plain_c {
         true
     }
 
+    #[inline(never)]
     fn parse_command(rounds: u64) {
         let mut parsed = Parsed::default();
         each(&inputs::commands(), rounds, |trb| {
@@ -79,6 +80,7 @@ mod plain_c {
         });
     }
 
+    #[inline(never)]
     fn parse_transfer(rounds: u64) {
         let mut parsed = Parsed::default();
         each(&inputs::transfers(), rounds, |trb| {
@@ -86,6 +88,7 @@ mod plain_c {
         });
     }
 
+    #[inline(never)]
     fn parse_mixed(rounds: u64) {
         let mut parsed = Parsed::default();
         each(&inputs::mixed(), rounds, |(command, trb)| match command {
@@ -94,6 +97,7 @@ mod plain_c {
         });
     }
 
+    #[inline(never)]
     fn event_write(rounds: u64) {
         let mut bytes = [0; 16];
         each(&events(), rounds, |event| {
@@ -101,6 +105,7 @@ mod plain_c {
         });
     }
 
+    #[inline(never)]
     fn event_read(rounds: u64) {
         let mut event = Event::default();
         each(&port::written(), rounds, |trb| {
@@ -108,6 +113,7 @@ mod plain_c {
         });
     }
 
+    #[inline(never)]
     fn next_trb(links: usize, rounds: u64) {
         let bytes = inputs::linked(links);
         let mut chase = Chase::default();
@@ -172,6 +178,7 @@ mod plain_c {
         }
     }
 
+    #[inline(never)]
     fn add(segments: u16, rounds: u64) {
         let mut bytes = inputs::event_ring(segments, &[[0; 16]; ROUND]);
         let mut ring = configured(&bytes, segments);
@@ -184,6 +191,7 @@ mod plain_c {
         });
     }
 
+    #[inline(never)]
     fn take(rounds: u64) {
         let bytes = inputs::event_ring(4, &port::written());
         let (start, mut taken) = (configured(&bytes, 4), [0; 16]);

@@ -28,6 +28,7 @@ macro_rules! original {
                 true
             }
 
+            #[inline(never)]
             fn next_trb(links: usize, rounds: u64) {
                 let mut ring = LinkedRing::new(Memory::new(inputs::linked(links)), 0, true);
                 for _ in 0..rounds {
@@ -39,6 +40,7 @@ macro_rules! original {
                 }
             }
 
+            #[inline(never)]
             fn add(segments: u16, rounds: u64) {
                 let bytes = inputs::event_ring(segments, &[[0; 16]; ROUND]);
                 let mut ring = EventRing::new(Memory::new(bytes));

@@ -30,10 +30,12 @@ pub fn written() -> Vec<Trb> {
     events().iter().map(bytes).collect()
 }
 
+#[inline(never)]
 fn event_read(rounds: u64) {
     each(&written(), rounds, |trb| answer(EventTrb::parse(*trb)));
 }
 
+#[inline(never)]
 fn next_trb(links: usize, rounds: u64) {
     let bytes = inputs::linked(links);
     let memory = GuestMemory::new(&bytes);
@@ -47,6 +49,7 @@ fn next_trb(links: usize, rounds: u64) {
     }
 }
 
+#[inline(never)]
 fn add(segments: u16, rounds: u64) {
     let mut bytes = inputs::event_ring(segments, &[[0; 16]; ROUND]);
     let mut memory = GuestMemoryMut::new(&mut bytes);
@@ -59,6 +62,7 @@ fn add(segments: u16, rounds: u64) {
     });
 }
 
+#[inline(never)]
 fn take(rounds: u64) {
     let bytes = inputs::event_ring(4, &written());
     let memory = GuestMemory::new(&bytes);
