@@ -1,9 +1,8 @@
 //! The original, once for each bus.
 
-#[cfg(at_hand)]
 macro_rules! original {
     ($name:ident = $original:ident) => {
-        mod $name {
+        pub mod $name {
             use super::super::alike::{alike, answer, each};
             use super::super::inputs::{self, ROUND};
             use super::super::line::Line;
@@ -54,20 +53,5 @@ macro_rules! original {
     };
 }
 
-#[cfg(at_hand)]
 original!(with_static_bus = original);
-#[cfg(at_hand)]
 original!(with_dyn_bus = original_dyn);
-
-#[cfg(at_hand)]
-pub use {with_dyn_bus::run as over_dyn_bus, with_static_bus::run as over_static_bus};
-
-pub const AT_HAND: bool = cfg!(at_hand);
-
-#[cfg(not(at_hand))]
-pub fn over_static_bus(_: super::line::Line, _: u64) -> bool {
-    false
-}
-
-#[cfg(not(at_hand))]
-pub use over_static_bus as over_dyn_bus;
