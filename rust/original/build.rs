@@ -18,6 +18,7 @@ fn main() {
         return;
     }
     println!("cargo:rustc-cfg=at_hand");
+    // For the build scripts of the crates that use this one.
     println!("cargo:at_hand=yes");
     println!(
         "cargo:rustc-env=ORIGINAL_EVENT_RING={}",

@@ -125,11 +125,24 @@ fn bytes(event: EventVariant, cycle: bool) -> TrbAnswer
     }
 }
 
+// The bytes of `event_from(e)`, type by type: that takes fewer instructions than to make the event of any type first.
+fn bytes_from(e: CEvent, cycle: bool) -> TrbAnswer
+    ensures { λ r. ⌜ r ≡ bytesFrom (eventFrom e) cycle ⌝ }
+{
+    let kind = e.kind;
+    match kind {
+        trb_types::TRANSFER_EVENT => bytes(transfer(e), cycle),
+        trb_types::COMMAND_COMPLETION_EVENT => bytes(command_completion(e), cycle),
+        trb_types::PORT_STATUS_CHANGE_EVENT => bytes(port_status_change(e), cycle),
+        _ => bytes(refuse(refusal::TYPE, kind), cycle),
+    }
+}
+
 #[no_mangle]
 pub extern "C" fn lomvigast_event_bytes(event: CEvent, cycle: bool) -> CTrb
     ensures { λ r. ⌜ r ≡ flatBytes (bytesFrom (eventFrom event) cycle) ⌝ }
 {
-    flat_bytes(bytes(event_from(event), cycle))
+    flat_bytes(bytes_from(event, cycle))
 }
 
 // ---- answered flat

@@ -30,7 +30,8 @@ pub fn trb_type(raw: RawTrbBuffer) -> u8
 pub fn cycle_bit(raw: RawTrbBuffer) -> bool
     ensures { λ r. ⌜ r ≡ cycleOf raw ⌝ }
 {
-    flag(raw, 12, 0)
+    let d = guest::split(raw);
+    d.d3 % 2 == 1
 }
 
 // What the modules read of the bytes, each but `two` as the field of a dword that it is.

@@ -54,6 +54,18 @@ impl From<RingState> for CEventRing {
     }
 }
 
+impl CEventRing {
+    /// Takes over what a step along the ring can change. A copy of the whole is slower: the core has just written the fields
+    /// one by one, and a processor waits for these before it reads them together.
+    #[inline]
+    fn step_to(&mut self, next: &Self) {
+        self.place = next.place;
+        self.remaining = next.remaining;
+        self.index = next.index;
+        self.cycle = next.cycle;
+    }
+}
+
 /// The producer's end of an event ring (xHCI 4.9.4).
 ///
 /// ```
@@ -121,7 +133,6 @@ impl EventRing {
     /// `dequeue_pointer` is the place up to which the driver has reported events as taken. Refused with 8 (the event), 4
     /// (this ring), 6 (`dequeue_pointer`), 1 (the slot, or the next table entry where one slot remains), 5 (that entry) or 7
     /// (full), in this order; no byte of memory has then changed, and the ring is as it was.
-    #[inline]
     pub fn enqueue(
         &mut self,
         memory: &mut GuestMemoryMut<'_>,
@@ -129,7 +140,7 @@ impl EventRing {
         dequeue_pointer: u64,
     ) -> Result<(), Refusal> {
         let moved = ffi::add(memory.bytes, &self.state, trb.flat(), dequeue_pointer);
-        self.state = moved.ring;
+        self.state.step_to(&moved.ring);
         Refusal::check(moved.refusal, 0)
     }
 
@@ -191,12 +202,14 @@ impl EventReader {
     ///
     /// Refused with 4 (this reader), 1 (the slot, or the next table entry after a segment's last event) or 5 (that entry), in
     /// this order; the reader is then as it was.
-    #[inline]
     pub fn take(&mut self, memory: GuestMemory<'_>) -> Result<Option<RawTrbBuffer>, Refusal> {
         let taken = ffi::take(memory.bytes, &self.state);
-        self.state = taken.reader;
-        Refusal::check(taken.refusal, 0)?;
-        Ok((taken.kind == 1).then_some(taken.trb))
+        self.state.step_to(&taken.reader);
+        match taken.kind {
+            0 => Ok(None),
+            1 => Ok(Some(taken.trb)),
+            _ => Err(Refusal::of(taken.refusal, 0)),
+        }
     }
 
     /// What the reader holds. Its `place` is what a driver reports.

@@ -74,26 +74,26 @@ impl LinkedRing {
     ///
     /// Refused with 1 where the sixteen bytes of a TRB are not all in memory; place and cycle state are then those of the
     /// entry.
-    #[inline]
     pub fn next_trb(&mut self, memory: GuestMemory<'_>) -> Result<Chase, Refusal> {
         let c = ffi::next_trb(memory.bytes, self.dequeue_pointer, self.cycle_state);
-        Refusal::check(c.refusal, 0)?;
+        // Those of the entry, where the chase was refused.
         self.dequeue_pointer = c.place;
         self.cycle_state = c.cycle;
-        let answer = match c.kind {
-            0 => Answer::NothingNew,
-            1 => Answer::Trb(RawTrb {
-                address: c.address,
-                buffer: c.trb,
-            }),
-            _ => Answer::TooManyLinks,
-        };
         let notes = Notes {
             links: c.links,
             cleared: c.cleared,
             completion: c.completion,
         };
-        Ok(Chase { answer, notes })
+        let ended = |answer| Ok(Chase { answer, notes });
+        match c.kind {
+            0 => ended(Answer::NothingNew),
+            1 => ended(Answer::Trb(RawTrb {
+                address: c.address,
+                buffer: c.trb,
+            })),
+            2 => ended(Answer::TooManyLinks),
+            _ => Err(Refusal::of(c.refusal, 0)),
+        }
     }
 
     /// Goes on by one TRB, modulo 2^64.

@@ -64,9 +64,18 @@ impl Refusal {
     }
 
     /// The refusal by its number and, for 9 and 10, the type beside it; 0 is none.
+    #[inline]
     pub(crate) fn check(number: u8, trb_type: u8) -> Result<(), Self> {
-        Err(match number {
-            0 => return Ok(()),
+        match number {
+            0 => Ok(()),
+            _ => Err(Self::of(number, trb_type)),
+        }
+    }
+
+    // Not inlined: a call that is not refused is to find little code on its way.
+    #[cold]
+    pub(crate) fn of(number: u8, trb_type: u8) -> Self {
+        match number {
             1 => Self::Outside,
             2 => Self::TableBase,
             3 => Self::TableEntries,
@@ -81,7 +90,7 @@ impl Refusal {
             12 => Self::Code,
             13 => Self::Immediate,
             _ => unreachable!("the contracts know no refusal {number}"),
-        })
+        }
     }
 }
 

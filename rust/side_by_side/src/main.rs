@@ -4,6 +4,7 @@
 // Some of what they can do only the comparison asks for.
 #![cfg_attr(not(at_hand), allow(dead_code))]
 
+mod bench;
 mod inputs;
 mod random;
 mod schedules;
@@ -21,14 +22,16 @@ const HELP: &str = "\
 side_by_side [--seed NUMBER] [--soak SECONDS]
     compares the original and the port on all small and some random inputs
     --seed NUMBER   takes the random inputs of an earlier run
-    --soak SECONDS  goes on with random inputs for so long";
+    --soak SECONDS  goes on with random inputs for so long
+side_by_side bench
+    compares their speed (docs/SPEED.md)";
 
 struct Options {
     seed: u64,
     soak: Duration,
 }
 
-fn options(mut words: impl Iterator<Item = String>) -> Option<Options> {
+fn options<'a>(mut words: impl Iterator<Item = &'a String>) -> Option<Options> {
     let now = SystemTime::now().duration_since(UNIX_EPOCH);
     let mut options = Options {
         seed: now.map_or(1, |since| since.as_nanos() as u64),
@@ -136,8 +139,8 @@ fn run(options: &Options) -> Counts {
     counts
 }
 
-fn main() -> ExitCode {
-    let Some(options) = options(std::env::args().skip(1)) else {
+fn compare(words: &[String]) -> ExitCode {
+    let Some(options) = options(words.iter()) else {
         eprintln!("{HELP}");
         return ExitCode::from(2);
     };
@@ -147,4 +150,18 @@ fn main() -> ExitCode {
     let counts = run(&options);
     counts.print();
     ExitCode::from(u8::from(counts.differing() != 0))
+}
+
+fn main() -> ExitCode {
+    let words: Vec<String> = std::env::args().skip(1).collect();
+    match words.split_first() {
+        Some((command, words)) if command == "bench" => match bench::main(words) {
+            Ok(()) => ExitCode::SUCCESS,
+            Err(error) => {
+                eprintln!("side_by_side: {error}");
+                ExitCode::FAILURE
+            }
+        },
+        _ => compare(&words),
+    }
 }

@@ -124,7 +124,6 @@ impl CommandTrbVariant {
     /// trb[13] = 18 << 2;
     /// assert_eq!(CommandTrbVariant::parse(trb), CommandTrbVariant::Unrecognized(trb, Refusal::Optional(18)));
     /// ```
-    #[inline]
     pub fn parse(bytes: RawTrbBuffer) -> Self {
         let parsed = ffi::parse_command(&bytes);
         match Refusal::check(parsed.refusal, parsed.command.kind) {

@@ -109,7 +109,6 @@ impl EventTrb {
     /// assert_eq!(long.to_bytes(true), Err(Refusal::Event));
     /// # Ok::<(), Refusal>(())
     /// ```
-    #[inline]
     pub fn to_bytes(&self, cycle_bit: bool) -> Result<RawTrbBuffer, Refusal> {
         let answer = ffi::event_bytes(self.flat(), cycle_bit);
         Refusal::check(answer.refusal, 0)?;
@@ -118,7 +117,6 @@ impl EventTrb {
 
     /// The event that was written as these bytes, with either cycle bit; refused are, in this order, other types (10), a code
     /// that the event cannot hold (12) and bits that no event of its type has (11).
-    #[inline]
     pub fn parse(bytes: RawTrbBuffer) -> Result<Self, Unrecognized> {
         let parsed = ffi::parse_event(&bytes);
         match Refusal::check(parsed.refusal, parsed.event.kind) {

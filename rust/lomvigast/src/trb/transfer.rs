@@ -125,7 +125,6 @@ impl TransferTrbVariant {
     /// let memory = [10, 11, 12, 13, 14, 15];
     /// assert_eq!(normal.data(GuestMemory::new(&memory)), Ok(&memory[2..5]));
     /// ```
-    #[inline]
     pub fn parse(bytes: RawTrbBuffer) -> Self {
         let parsed = ffi::parse_transfer(&bytes);
         match Refusal::check(parsed.refusal, parsed.transfer.kind) {

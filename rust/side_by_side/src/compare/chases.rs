@@ -85,7 +85,7 @@ impl Stage {
                 (ours, port.get_dequeue_pointer()),
             );
         }
-        tally.hold(&input, true, *self.bus.bytes() == self.bytes);
+        tally.hold(&input, true, self.bus.holds(&self.bytes));
     }
 
     fn hold_all(&self, tally: &mut Tally, places: impl Iterator<Item = u64>) {

@@ -90,7 +90,7 @@ impl Pair {
 
     /// Every byte of memory, and that the original stayed inside it.
     fn hold_memory(&self, tally: &mut Tally) {
-        let same = (*self.bus.bytes() == self.bytes, self.bus.outside());
+        let same = (self.bus.holds(&self.bytes), self.bus.outside());
         tally.hold(&(&self.table, self.port), (true, 0), same);
     }
 

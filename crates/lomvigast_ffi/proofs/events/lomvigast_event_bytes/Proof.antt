@@ -9,5 +9,4 @@ lomvigast-event-bytes-spec =
     (tie.spec
     (λ c κs. search needs)
     (λ c κs. search needs)
-    (λ c κs. search needs)
-    (λ c. rw (c .flat-bytes .ensures, c .before .bytes .ensures, c .before .before .event-from .ensures)))
+    (λ c. rw (c .flat-bytes .ensures, c .before .bytes-from .ensures)))
