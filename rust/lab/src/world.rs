@@ -113,8 +113,14 @@ impl World {
         GuestMemory::new(&self.memory)
     }
 
-    pub fn ring(&self, name: &str) -> Option<RingState> {
-        self.rings.get(name).map(EventRing::state)
+    /// All event rings by name.
+    pub fn rings(&self) -> impl Iterator<Item = (&str, RingState)> {
+        let rings = self.rings.iter();
+        rings.map(|(name, ring)| (name.as_str(), ring.state()))
+    }
+
+    pub fn reader(&self, name: &str) -> Option<RingState> {
+        self.readers.get(name).map(EventReader::state)
     }
 
     /// All readers by name.

@@ -6,7 +6,7 @@ mod late;
 
 use crate::output::{Output, Stop};
 use crate::script;
-use crate::words::Tone;
+use crate::words::{wrapped, Tone};
 use crate::world::{Answer, World};
 
 /// One thing done, and how to read what came back.
@@ -130,16 +130,15 @@ fn transcript(played: &[Played], out: &mut Output<'_>) -> Result<(), Stop> {
     Ok(out.toned(tone, format!("  Came back: {}", last.answer))?)
 }
 
-/// A paragraph under a word, in lines of a terminal's width.
+/// A paragraph behind a word, in lines of a terminal's width.
 fn paragraph(head: &str, text: &str, out: &mut Output<'_>) -> Result<(), Stop> {
-    const WIDTH: usize = 100;
-    let mut line = format!("  {head}:");
-    for word in text.split_whitespace() {
-        if line.chars().count() + 1 + word.chars().count() > WIDTH {
-            out.line(&line)?;
-            line = "   ".to_owned();
-        }
-        line = line + " " + word;
+    const WIDTH: usize = 96;
+    for (n, line) in wrapped(&format!("{head}: {text}"), WIDTH)
+        .iter()
+        .enumerate()
+    {
+        let indent = if n == 0 { "  " } else { "    " };
+        out.line(format!("{indent}{line}"))?;
     }
-    Ok(out.line(line)?)
+    Ok(())
 }
