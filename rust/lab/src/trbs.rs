@@ -4,8 +4,8 @@
 //! interrupter, some flags); those are read from the bytes here.
 
 use lomvigast::trb::{
-    trb_type, CommandTrbVariant, CompletionCode, EventTrb, LinkTrb, RawTrbBuffer,
-    TransferTrbVariant,
+    trb_type, CommandTrbVariant, CompletionCode, EventTrb, LinkTrb, RawTrbBuffer, SetupStageTrb,
+    TransferTrbVariant, TrbDmaInfo,
 };
 use lomvigast::Refusal;
 
@@ -42,51 +42,56 @@ fn link(trb: &RawTrbBuffer) -> String {
 }
 
 fn command(trb: &RawTrbBuffer) -> Result<String, Refusal> {
-    use CommandTrbVariant as C;
+    let (fields, flag) = command_fields(trb)?;
     let name = type_name(trb_type(trb));
     let cycle = ('c', set(trb, CYCLE));
-    let (fields, first_flags) = match CommandTrbVariant::parse(*trb) {
-        C::NoOp | C::EnableSlot => (String::new(), vec![]),
-        C::DisableSlot(c) => (slot(c.slot_id), vec![]),
+    let flags = match flag {
+        Some(flag) => flags(&[flag, cycle]),
+        None => flags(&[cycle]),
+    };
+    Ok(format!("{name}: {fields}flags {flags}"))
+}
+
+/// A command's fields, and the flag that it has beside the cycle bit.
+fn command_fields(trb: &RawTrbBuffer) -> Result<(String, Option<(char, bool)>), Refusal> {
+    use CommandTrbVariant as C;
+    Ok(match CommandTrbVariant::parse(*trb) {
+        C::NoOp | C::EnableSlot => (String::new(), None),
+        C::DisableSlot(c) => (slot(c.slot_id), None),
         C::AddressDevice(c) => (
             context(c.input_context_pointer, c.slot_id),
-            vec![('b', c.block_set_address_request)],
+            Some(('b', c.block_set_address_request)),
         ),
         C::ConfigureEndpoint(c) => (
             context(c.input_context_pointer, c.slot_id),
-            vec![('d', c.deconfigure)],
+            Some(('d', c.deconfigure)),
         ),
-        C::EvaluateContext(c) => (context(c.input_context_pointer, c.slot_id), vec![]),
+        C::EvaluateContext(c) => (context(c.input_context_pointer, c.slot_id), None),
         C::ResetEndpoint(c) => (
-            format!("{}ep {} ", context(qword(trb), c.slot_id), c.endpoint_id),
-            vec![('t', trb[13] & PRESERVE != 0)],
+            context(qword(trb), c.slot_id) + &endpoint(c.endpoint_id),
+            Some(('t', trb[13] & PRESERVE != 0)),
         ),
         C::StopEndpoint(c) => {
-            let suspend = trb[14] >> 7;
-            let fields = format!("slot {} sp {suspend} ep {} ", c.slot_id, c.endpoint_id);
-            (fields, vec![])
+            let suspend = format!("sp {} ", trb[14] >> 7);
+            (slot(c.slot_id) + &suspend + &endpoint(c.endpoint_id), None)
         }
-        C::SetTrDequeuePointer(c) => (
+        C::SetTrDequeuePointer(c) => {
             // Linux shows the bits below the pointer with it.
-            format!(
-                "deq {:016x} stream {} slot {} ep {} ",
-                qword(trb),
-                c.stream_id,
-                c.slot_id,
-                c.endpoint_id
-            ),
-            vec![],
-        ),
-        C::ResetDevice(c) => (slot(c.slot_id), vec![]),
-        C::ForceHeader => ("not taken apart, ".to_owned(), vec![]),
+            let place = format!("deq {:016x} stream {} ", qword(trb), c.stream_id);
+            (place + &slot(c.slot_id) + &endpoint(c.endpoint_id), None)
+        }
+        C::ResetDevice(c) => (slot(c.slot_id), None),
+        C::ForceHeader => ("not taken apart, ".to_owned(), None),
         C::Unrecognized(_, refusal) => return Err(refusal),
-    };
-    let flags = flags(&[first_flags, vec![cycle]].concat());
-    Ok(format!("{name}: {fields}flags {flags}"))
+    })
 }
 
 fn slot(slot: u8) -> String {
     format!("slot {slot} ")
+}
+
+fn endpoint(endpoint: u8) -> String {
+    format!("ep {endpoint} ")
 }
 
 fn context(pointer: u64, slot: u8) -> String {
@@ -95,44 +100,18 @@ fn context(pointer: u64, slot: u8) -> String {
 
 fn transfer(trb: &RawTrbBuffer) -> Result<String, Refusal> {
     use TransferTrbVariant as T;
-    let all = |immediate, completion, chain, short| {
-        [
-            ('b', trb[13] & BLOCK != 0),
-            ('i', immediate),
-            ('i', completion),
-            ('c', chain),
-            ('s', set(trb, NO_SNOOP)),
-            ('i', short),
-            ('e', set(trb, EVALUATE_NEXT)),
-            ('c', set(trb, CYCLE)),
-        ]
-    };
-    let from_bytes =
-        |completion, chain| all(set(trb, IMMEDIATE), completion, chain, set(trb, SHORT));
+    let bytes = Flags::of_bytes(trb);
     Ok(match TransferTrbVariant::parse(*trb) {
         T::Normal(t) => {
-            let (completion, short) = (t.interrupt_on_completion, t.interrupt_on_short);
-            let flags = all(t.immediate_data, completion, t.chain, short);
+            let flags = Flags::of_data(&t, t.chain).letters(trb);
             buffer(trb, t.data_pointer, t.transfer_length, &flags)
         }
         T::DataStage(t) => {
-            let (completion, short) = (t.interrupt_on_completion, t.interrupt_on_short);
-            let flags = all(t.immediate_data, completion, t.chain, short);
+            let flags = Flags::of_data(&t, t.chain).letters(trb);
             // Without the first, which this type does not have.
             buffer(trb, t.data_pointer, t.transfer_length, &flags[1..])
         }
-        T::SetupStage(t) => {
-            let request = format!(
-                "bRequestType {:02x} bRequest {:02x} wValue {:04x} wIndex {:04x} wLength {}",
-                t.request_type, t.request, t.value, t.index, t.length
-            );
-            let flags = [
-                ('i', set(trb, IMMEDIATE)),
-                ('i', t.interrupt_on_completion),
-                ('c', set(trb, CYCLE)),
-            ];
-            format!("{request} {}", tail(trb, length(trb), &flags))
-        }
+        T::SetupStage(t) => setup(trb, &t),
         T::StatusStage(t) => {
             let flags = [
                 ('i', t.interrupt_on_completion),
@@ -142,20 +121,83 @@ fn transfer(trb: &RawTrbBuffer) -> Result<String, Refusal> {
             ];
             buffer(trb, qword(trb), length(trb), &flags)
         }
-        T::Isoch => {
-            let flags = from_bytes(set(trb, COMPLETION), set(trb, CHAIN));
-            buffer(trb, qword(trb), length(trb), &flags)
-        }
+        T::Isoch => buffer(trb, qword(trb), length(trb), &bytes.letters(trb)),
         T::EventData(t) => {
-            let flags = from_bytes(t.interrupt_on_completion, t.chain);
+            let flags = bytes.with(t.interrupt_on_completion, t.chain).letters(trb);
             buffer(trb, t.event_data, length(trb), &flags)
         }
         T::NoOp(t) => {
-            let flags = from_bytes(t.interrupt_on_completion, t.chain);
+            let flags = bytes.with(t.interrupt_on_completion, t.chain).letters(trb);
             buffer(trb, qword(trb), length(trb), &flags)
         }
         T::Unrecognized(_, refusal) => return Err(refusal),
     })
+}
+
+/// Flags of a transfer TRB. The core answers those that it takes apart for a type.
+struct Flags {
+    immediate: bool,
+    completion: bool,
+    chain: bool,
+    short: bool,
+}
+
+impl Flags {
+    fn of_bytes(trb: &RawTrbBuffer) -> Self {
+        Self {
+            immediate: set(trb, IMMEDIATE),
+            completion: set(trb, COMPLETION),
+            chain: set(trb, CHAIN),
+            short: set(trb, SHORT),
+        }
+    }
+
+    fn of_data(trb: &dyn TrbDmaInfo, chain: bool) -> Self {
+        Self {
+            immediate: trb.has_immediate_data(),
+            completion: trb.has_interrupt_on_completion(),
+            chain,
+            short: trb.has_interrupt_on_short(),
+        }
+    }
+
+    fn with(self, completion: bool, chain: bool) -> Self {
+        Self {
+            completion,
+            chain,
+            ..self
+        }
+    }
+
+    fn letters(&self, trb: &RawTrbBuffer) -> [(char, bool); 8] {
+        [
+            ('b', trb[13] & BLOCK != 0),
+            ('i', self.immediate),
+            ('i', self.completion),
+            ('c', self.chain),
+            ('s', set(trb, NO_SNOOP)),
+            ('i', self.short),
+            ('e', set(trb, EVALUATE_NEXT)),
+            ('c', set(trb, CYCLE)),
+        ]
+    }
+}
+
+fn setup(trb: &RawTrbBuffer, t: &SetupStageTrb) -> String {
+    let flags = [
+        ('i', set(trb, IMMEDIATE)),
+        ('i', t.interrupt_on_completion),
+        ('c', set(trb, CYCLE)),
+    ];
+    format!(
+        "bRequestType {:02x} bRequest {:02x} wValue {:04x} wIndex {:04x} wLength {} {}",
+        t.request_type,
+        t.request,
+        t.value,
+        t.index,
+        t.length,
+        tail(trb, length(trb), &flags)
+    )
 }
 
 fn buffer(trb: &RawTrbBuffer, pointer: u64, length: u32, flags: &[(char, bool)]) -> String {
@@ -285,43 +327,63 @@ pub fn type_words(trb_type: u8) -> String {
 
 /// Linux's name of a completion code.
 pub fn code_name(code: CompletionCode) -> &'static str {
-    use CompletionCode::*;
-    match code {
-        Invalid => "Invalid",
-        Success => "Success",
-        DataBufferError => "Data Buffer Error",
-        BabbleDetectedError => "Babble Detected",
-        UsbTransactionError => "USB Transaction Error",
-        TrbError => "TRB Error",
-        StallError => "Stall Error",
-        ResourceError => "Resource Error",
-        BandwidthError => "Bandwidth Error",
-        NoSlotsAvailableError => "No Slots Available Error",
-        InvalidStreamTypeError => "Invalid Stream Type Error",
-        SlotNotEnabledError => "Slot Not Enabled Error",
-        EndpointNotEnabledError => "Endpoint Not Enabled Error",
-        ShortPacket => "Short Packet",
-        RingUnderrun => "Ring Underrun",
-        RingOverrun => "Ring Overrun",
-        VfEventRingFullError => "VF Event Ring Full Error",
-        ParameterError => "Parameter Error",
-        BandwidthOverrunError => "Bandwidth Overrun Error",
-        ContextStateError => "Context State Error",
-        NoPingResponseError => "No Ping Response Error",
-        EventRingFullError => "Event Ring Full Error",
-        IncompatibleDeviceError => "Incompatible Device Error",
-        MissedServiceError => "Missed Service Error",
-        CommandRingStopped => "Command Ring Stopped",
-        CommandAborted => "Command Aborted",
-        Stopped => "Stopped",
-        StoppedLengthInvalid => "Stopped - Length Invalid",
-        StoppedShortedPacket => "Stopped - Short Packet",
-        MaxExitLatencyTooLargeError => "Max Exit Latency Too Large Error",
-        IsochBufferOverrun => "Isoch Buffer Overrun",
-        EventLostError => "Event Lost Error",
-        UndefinedError => "Undefined Error",
-        InvalidStreamIdError => "Invalid Stream ID Error",
-        SecondaryBandwidthError => "Secondary Bandwidth Error",
-        SplitTransactionError => "Split Transaction Error",
+    CODE_NAMES[usize::from(u8::from(code))]
+}
+
+/// By number; 30 is reserved.
+const CODE_NAMES: [&str; 37] = [
+    "Invalid",
+    "Success",
+    "Data Buffer Error",
+    "Babble Detected",
+    "USB Transaction Error",
+    "TRB Error",
+    "Stall Error",
+    "Resource Error",
+    "Bandwidth Error",
+    "No Slots Available Error",
+    "Invalid Stream Type Error",
+    "Slot Not Enabled Error",
+    "Endpoint Not Enabled Error",
+    "Short Packet",
+    "Ring Underrun",
+    "Ring Overrun",
+    "VF Event Ring Full Error",
+    "Parameter Error",
+    "Bandwidth Overrun Error",
+    "Context State Error",
+    "No Ping Response Error",
+    "Event Ring Full Error",
+    "Incompatible Device Error",
+    "Missed Service Error",
+    "Command Ring Stopped",
+    "Command Aborted",
+    "Stopped",
+    "Stopped - Length Invalid",
+    "Stopped - Short Packet",
+    "Max Exit Latency Too Large Error",
+    "",
+    "Isoch Buffer Overrun",
+    "Event Lost Error",
+    "Undefined Error",
+    "Invalid Stream ID Error",
+    "Secondary Bandwidth Error",
+    "Split Transaction Error",
+];
+
+#[cfg(test)]
+mod tests {
+    use super::*;
+
+    #[test]
+    fn a_name_is_that_of_its_code() {
+        let letters = |name: &str| name.replace([' ', '-'], "").to_lowercase();
+        let others: Vec<&str> = CompletionCode::ALL
+            .into_iter()
+            .filter(|code| letters(code_name(*code)) != format!("{code:?}").to_lowercase())
+            .map(code_name)
+            .collect();
+        // Linux has two names that differ from xHCI's.
+        assert_eq!(others, ["Babble Detected", "Stopped - Short Packet"]);
     }
 }

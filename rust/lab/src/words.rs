@@ -3,9 +3,10 @@
 use crate::trbs::{code_name, type_name, type_words};
 use crate::world::{Accepted, Answer, Chase};
 use lomvigast::event_ring::RingState;
-use lomvigast::linked_ring::{self, Notes};
+use lomvigast::linked_ring::{self, LinkedRing, Notes};
 use lomvigast::trb::{
-    trb_type, Class, CommandTrbVariant, EventTrb, LinkTrb, RawTrb, RawTrbBuffer, TransferTrbVariant,
+    trb_type, Class, CommandTrbVariant, EventTrb, LinkTrb, RawTrb, RawTrbBuffer,
+    TransferTrbVariant, TrbDmaInfo,
 };
 use lomvigast::Refusal;
 use std::fmt;
@@ -71,55 +72,36 @@ fn chase_word(chase: &Chase) -> &'static str {
 
 impl fmt::Display for Answer {
     fn fmt(&self, f: &mut fmt::Formatter<'_>) -> fmt::Result {
-        match self {
-            Self::Refused(refusal, None) => write!(f, "{}", refused(*refusal)),
-            Self::Refused(refusal, Some(trb)) => {
-                write!(f, "{}; bytes {}", refused(*refusal), bytes(trb))
-            }
-            Self::Memory(length) => write!(f, "memory: {}, all 0", count(*length, "byte")),
-            Self::Poked(at, length) => write!(f, "poked: {} at {at:#x}", count(*length, "byte")),
-            Self::Part(at, part) => f.write_str(&part_words(*at, part)),
-            Self::Filled(at, length, byte) => {
-                write!(
-                    f,
-                    "filled: {} at {at:#x} with {byte:#04x}",
-                    count(*length, "byte")
-                )
-            }
-            Self::Inside(at, length, true) => {
-                write!(f, "yes: {length} bytes from {at:#x} are inside memory")
-            }
-            Self::Inside(at, length, false) => {
-                write!(
-                    f,
-                    "no: {length} bytes from {at:#x} are not all inside memory"
-                )
-            }
-            Self::Number(value) => write!(f, "number: {value:#x} ({value})"),
-            Self::Raw(at, trb) => write!(f, "TRB at {at:#x}: {}", bytes(trb)),
-            Self::Written(at) => write!(f, "written: 16 bytes at {at:#x}"),
-            Self::Code(code) => write!(f, "code: {} ({})", code_name(*code), u8::from(*code)),
-            Self::Class(byte, class) => write!(f, "class of {byte}: {}", class_words(*class)),
-            Self::Type(number) => write!(f, "type: {}", type_words(*number)),
-            Self::CycleBit(cycle) => write!(f, "cycle bit: {}", u8::from(*cycle)),
-            Self::Link(link) => f.write_str(&link_words(link)),
-            Self::NoLink(number) => write!(f, "no Link: the type is {}", type_words(*number)),
-            Self::Command(n, command) => f.write_str(&typed(*n, &command_fields(command))),
-            Self::Transfer(n, transfer) => f.write_str(&typed(*n, &transfer_fields(transfer))),
-            Self::Event(event) => f.write_str(&typed(event_type(event), &event_fields(event))),
-            Self::EventBytes(trb) => write!(f, "bytes: {}", bytes(trb)),
-            Self::Place(ring) => {
-                let (place, cycle) = ring.get_dequeue_pointer();
-                write!(f, "place {place:#x}, cycle state {}", u8::from(cycle))
-            }
-            Self::Chase(chase) => f.write_str(&chase_words(chase)),
-            Self::NotConfigured => f.write_str("not configured"),
-            Self::Configured(state) => f.write_str(&configured_words(state)),
-            Self::State(state) => write!(f, "state: {}", state_fields(state)),
-            Self::Accepted(accepted) => f.write_str(&accepted_words(accepted)),
-            Self::Taken(slot, trb) => write!(f, "taken from {slot:#x}: {}", taken_words(trb)),
-            Self::None(slot) => write!(f, "none: the slot at {slot:#x} is stale"),
-        }
+        f.write_str(&match self {
+            Self::Refused(refusal, None) => refused(*refusal),
+            Self::Refused(refusal, Some(trb)) => refused(*refusal) + "; bytes " + &bytes(trb),
+            Self::Memory(length) => format!("memory: {}, all 0", count(*length, "byte")),
+            Self::Poked(at, length) => format!("poked: {} at {at:#x}", count(*length, "byte")),
+            Self::Part(at, part) => part_words(*at, part),
+            Self::Filled(at, length, byte) => filled_words(*at, *length, *byte),
+            Self::Inside(at, length, inside) => inside_words(*at, *length, *inside),
+            Self::Number(value) => format!("number: {value:#x} ({value})"),
+            Self::Raw(at, trb) => format!("TRB at {at:#x}: {}", bytes(trb)),
+            Self::Written(at) => format!("written: 16 bytes at {at:#x}"),
+            Self::Code(code) => format!("code: {} ({})", code_name(*code), u8::from(*code)),
+            Self::Class(byte, class) => format!("class of {byte}: {}", class_words(*class)),
+            Self::Type(number) => format!("type: {}", type_words(*number)),
+            Self::CycleBit(cycle) => format!("cycle bit: {}", u8::from(*cycle)),
+            Self::Link(link) => link_words(link),
+            Self::NoLink(number) => format!("no Link: the type is {}", type_words(*number)),
+            Self::Command(n, command) => typed(*n, &command_fields(command)),
+            Self::Transfer(n, transfer) => typed(*n, &transfer_fields(transfer)),
+            Self::Event(event) => typed(event_type(event), &event_fields(event)),
+            Self::EventBytes(trb) => format!("bytes: {}", bytes(trb)),
+            Self::Place(ring) => place_words(ring),
+            Self::Chase(chase) => chase_words(chase),
+            Self::NotConfigured => "not configured".to_owned(),
+            Self::Configured(state) => configured_words(state),
+            Self::State(state) => format!("state: {}", state_fields(state)),
+            Self::Accepted(accepted) => accepted_words(accepted),
+            Self::Taken(slot, trb) => format!("taken from {slot:#x}: {}", taken_words(trb)),
+            Self::None(slot) => format!("none: the slot at {slot:#x} is stale"),
+        })
     }
 }
 
@@ -203,6 +185,23 @@ fn part_words(at: u64, part: &[u8]) -> String {
     }
 }
 
+fn filled_words(at: u64, length: usize, byte: u8) -> String {
+    let length = count(length, "byte");
+    format!("filled: {length} at {at:#x} with {byte:#04x}")
+}
+
+fn inside_words(at: u64, length: u64, inside: bool) -> String {
+    match inside {
+        true => format!("yes: {length} bytes from {at:#x} on are inside memory"),
+        false => format!("no: {length} bytes from {at:#x} on are not all inside memory"),
+    }
+}
+
+fn place_words(ring: &LinkedRing) -> String {
+    let (place, cycle) = ring.get_dequeue_pointer();
+    format!("place {place:#x}, cycle state {}", u8::from(cycle))
+}
+
 fn class_words(class: Class) -> &'static str {
     match class {
         Class::Listed => "listed (one of the 36 codes)",
@@ -265,28 +264,27 @@ fn command_fields(command: &CommandTrbVariant) -> String {
     }
 }
 
+/// The fields of a TRB that points at data.
+fn data_fields(trb: &dyn TrbDmaInfo, chain: bool) -> String {
+    format!(
+        "pointer={:#x} length={} short={} chain={} completion={} immediate={}",
+        trb.data_pointer(),
+        trb.transfer_length(),
+        u8::from(trb.has_interrupt_on_short()),
+        u8::from(chain),
+        u8::from(trb.has_interrupt_on_completion()),
+        u8::from(trb.has_immediate_data())
+    )
+}
+
 fn transfer_fields(transfer: &TransferTrbVariant) -> String {
     use TransferTrbVariant as T;
     match transfer {
-        T::Normal(t) => format!(
-            "pointer={:#x} length={} short={} chain={} completion={} immediate={}",
-            t.data_pointer,
-            t.transfer_length,
-            u8::from(t.interrupt_on_short),
-            u8::from(t.chain),
-            u8::from(t.interrupt_on_completion),
-            u8::from(t.immediate_data)
-        ),
-        T::DataStage(t) => format!(
-            "pointer={:#x} length={} short={} chain={} completion={} immediate={} direction={}",
-            t.data_pointer,
-            t.transfer_length,
-            u8::from(t.interrupt_on_short),
-            u8::from(t.chain),
-            u8::from(t.interrupt_on_completion),
-            u8::from(t.immediate_data),
-            u8::from(t.direction)
-        ),
+        T::Normal(t) => data_fields(t, t.chain),
+        T::DataStage(t) => {
+            let direction = u8::from(t.direction);
+            format!("{} direction={direction}", data_fields(t, t.chain))
+        }
         T::SetupStage(t) => format!(
             "request_type={:#x} request={:#x} value={:#x} index={:#x} length={} completion={}",
             t.request_type,

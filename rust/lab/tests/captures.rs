@@ -4,7 +4,6 @@ use lab::capture::{Capture, LENGTH};
 use lab::output::{Output, Stop};
 use lab::show::{show, walk, End};
 use lab::trbs::{self, Kind};
-use lab::words::bytes;
 use lab::world::Answer;
 use std::fs;
 use std::io::{self, Write};
@@ -163,7 +162,7 @@ fn the_readers_end_where_linux_stands() {
     }
 }
 
-/// The small capture without its first line of trbs.txt, and with another file's text in place of one.
+/// What is said of the small capture with another text in place of one of its files.
 fn broken(name: &str, file: &str, text: &str) -> String {
     let folder = std::env::temp_dir().join(format!("lomvigast-lab-{}-{name}", std::process::id()));
     fs::create_dir_all(&folder).expect("a folder for the test");
@@ -179,45 +178,37 @@ fn broken(name: &str, file: &str, text: &str) -> String {
     }
 }
 
+const BROKEN: &[(&str, &str, &str)] = &[
+    ("trbs.txt", "0x10 000", "line 1: BYTES has 3 hex digits"),
+    ("trbs.txt", "\n0x10 0000", "line 2: 16 bytes, not 2"),
+    (
+        "trbs.txt",
+        "0x08000000 00000000 00000000 00000000 00000000",
+        "beyond the 134217728 bytes",
+    ),
+    (
+        "trbs.txt",
+        "0xffffffffffffffff 00000000 00000000 00000000 00000000",
+        "beyond the 134217728 bytes",
+    ),
+    (
+        "rings.txt",
+        "bell b first 0 cycle 0 dequeue 0 enqueue 0",
+        "\"bell\"",
+    ),
+    (
+        "rings.txt",
+        "event e first 0 cycle 0 dequeue 0 enqueue 0",
+        "needs a line `table`",
+    ),
+    ("rings.txt", "command c first", "the first slot is missing"),
+    ("rings.txt", "table 0 entries 65536", "2^16"),
+];
+
 #[test]
 fn a_broken_capture_says_where() {
-    let trb = format!("0x08000000 {}", bytes(&[0; 16]));
-    for (name, file, text, part) in [
-        (
-            "odd",
-            "trbs.txt",
-            "0x10 000",
-            "line 1: BYTES has 3 hex digits",
-        ),
-        (
-            "short",
-            "trbs.txt",
-            "\n0x10 0000",
-            "line 2: 16 bytes, not 2",
-        ),
-        ("beyond", "trbs.txt", &trb, "beyond the 134217728 bytes"),
-        (
-            "kind",
-            "rings.txt",
-            "bell b first 0 cycle 0 dequeue 0 enqueue 0",
-            "\"bell\"",
-        ),
-        (
-            "table",
-            "rings.txt",
-            "event e first 0 cycle 0 dequeue 0 enqueue 0",
-            "needs a line `table`",
-        ),
-        (
-            "words",
-            "rings.txt",
-            "command c first",
-            "the first slot is missing",
-        ),
-    ] {
-        let fault = broken(name, file, text);
+    for (n, (file, text, part)) in BROKEN.iter().enumerate() {
+        let fault = broken(&n.to_string(), file, text);
         assert!(fault.contains(file) && fault.contains(part), "{fault}");
     }
-    // An empty list of TRBs is memory of zeros, an empty list of rings has nothing to show: no faults.
-    assert!(Capture::of_folder(Path::new("/nowhere/at/all"), 16).is_err());
 }

@@ -36,47 +36,54 @@ fn help_for_each() {
     }
 }
 
+/// Arguments that are misused, and a part of what is said of them.
+const MISUSES: &[(&[&str], &str)] = &[
+    (&["fly"], "no command is called \"fly\""),
+    (&["lesson", "4"], "the lessons are 1, 2 and 3"),
+    (&["lesson", "1", "2"], "one argument too many"),
+    (&["run", "--fast"], "\"--fast\" is not known"),
+    (&["run", "/no/such/file"], "cannot be read"),
+    (&["show"], "name a folder DIR"),
+    (&["show", "/no/such/folder"], "cannot be read"),
+    (&["show", "--memory"], "--memory needs a value"),
+    (
+        &["show", "--memory", "/dev/null"],
+        "say where a ring begins",
+    ),
+    (
+        &["show", "--memory", "/dev/null", "--table", "0"],
+        "go together",
+    ),
+    (
+        &["show", "--memory", "/dev/null", "--ring", "0,2"],
+        "must be 0 or 1",
+    ),
+    (
+        &[
+            "show",
+            "--memory",
+            "/dev/null",
+            "--base",
+            "0x40000001",
+            "--ring",
+            "0",
+        ],
+        "above the limit",
+    ),
+    (
+        &["show", "--base", "0", "x"],
+        "--base goes with --memory FILE",
+    ),
+    (
+        &["show", "--base", "0", "--base", "0", "--memory", "x"],
+        "--base is given twice",
+    ),
+    (&["show", "--length", "1073741825", "x"], "above the limit"),
+];
+
 #[test]
 fn misuse_is_2_and_says_why_on_standard_error() {
-    for (arguments, part) in [
-        (&["fly"][..], "no command is called \"fly\""),
-        (&["lesson", "4"], "the lessons are 1, 2 and 3"),
-        (&["lesson", "1", "2"], "one argument too many"),
-        (&["run", "--fast"], "\"--fast\" is not known"),
-        (&["run", "/no/such/file"], "cannot be read"),
-        (&["show"], "name a folder DIR"),
-        (&["show", "/no/such/folder"], "cannot be read"),
-        (&["show", "--memory"], "--memory needs a value"),
-        (
-            &["show", "--memory", "/dev/null"],
-            "say where a ring begins",
-        ),
-        (
-            &["show", "--memory", "/dev/null", "--table", "0"],
-            "go together",
-        ),
-        (
-            &["show", "--memory", "/dev/null", "--ring", "0,2"],
-            "must be 0 or 1",
-        ),
-        (
-            &[
-                "show",
-                "--memory",
-                "/dev/null",
-                "--base",
-                "0x40000001",
-                "--ring",
-                "0",
-            ],
-            "above the limit",
-        ),
-        (
-            &["show", "--base", "0", "x"],
-            "--base goes with --memory FILE",
-        ),
-        (&["show", "--length", "1073741825", "x"], "above the limit"),
-    ] {
+    for (arguments, part) in MISUSES {
         let said = run(arguments, b"");
         assert_eq!(said.status.code(), Some(2), "{arguments:?}");
         assert!(said.stdout.is_empty(), "{arguments:?}");

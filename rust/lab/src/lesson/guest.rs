@@ -17,67 +17,82 @@ fn chain(links: usize) -> String {
     )
 }
 
+/// A Link that leads to itself, with this byte 12. The reader asks.
+fn itself(byte_12: &str) -> String {
+    format!(
+        "memory 0x10\nwrite_trb 0x0 000000000000000000000000{byte_12}180000\nlinked reader new 0x0 1\nlinked reader next_trb"
+    )
+}
+
 pub fn scenes() -> Vec<Scene> {
-    let scene = |title: &str, done: &str, script: String, read: &str, meaning| Scene {
-        title: title.to_owned(),
-        done: done.to_owned(),
-        script,
-        read: read.to_owned(),
-        meaning,
-    };
-    let itself = |flags: &str| {
-        format!("memory 0x10\nwrite_trb 0x0 000000000000000000000000{flags}180000\nlinked reader new 0x0 1\nlinked reader next_trb")
-    };
+    [circles(), chains(), outside()]
+        .into_iter()
+        .flatten()
+        .collect()
+}
+
+fn circles() -> Vec<Scene> {
     vec![
-        scene(
+        Scene::new(
             "Links in a circle",
             "The guest wrote one Link (type 6), fresh, that leads to itself. A reader with cycle state 1 asks for the next TRB.",
-            itself("01"),
+            &itself("01"),
             "The core followed 256 links, saw that one more fresh Link stands there, and stopped. It does not know what is on this ring. \
-             Nobody may read that as an idle ring: usbvfiod answers None here, as it does for a ring without work, and a probe's readings then wait unseen.",
+             Nobody may read that as an idle ring: usbvfiod answers None here, as it does for a ring without work, and whatever waits behind stays unseen.",
             "the links have no end that was seen; whether work waits is not known",
         ),
-        scene(
+        Scene::new(
             "The same circle with toggle",
             "The same Link with its toggle bit set, 03 in place of 01 in byte 12.",
-            itself("03"),
+            &itself("03"),
             "Following it once flips the cycle state to 0. The Link has cycle bit 1, so now it is stale: there truly is nothing new. \
              One bit parts the two answers.",
             "an empty ring; the reader went round once and waits",
         ),
-        scene(
+    ]
+}
+
+fn chains() -> Vec<Scene> {
+    vec![
+        Scene::new(
             "Exactly 256 links",
             "256 Links, each to the next, and behind the last one a No Op command (type 23).",
-            chain(256),
+            &chain(256),
             "256 is what is followed at most, and 256 were enough. The place is on the TRB.",
             "a TRB, found at the limit",
         ),
-        scene(
+        Scene::new(
             "One link more",
             "The same with 257 Links.",
-            chain(257),
+            &chain(257),
             "The No Op command stands one link further on. The core says how many links it followed and where the next one stands, and that it gave up. \
              The 257th is not counted: it was seen and not followed.",
             "a TRB is there and was not reached: giving up is not finding nothing",
         ),
-        scene(
+    ]
+}
+
+fn outside() -> Vec<Scene> {
+    let link = link(0, 0x1000);
+    vec![
+        Scene::new(
             "A link that leads out of memory",
             "A Link that leads to 0x1000 in a guest that has 16 bytes.",
-            format!("memory 0x10\n{}linked reader new 0x0 1\nlinked reader next_trb\nlinked reader show\nlinked reader next_trb", link(0, 0x1000)),
+            &format!("memory 0x10\n{link}linked reader new 0x0 1\nlinked reader next_trb\nlinked reader show\nlinked reader next_trb"),
             "No byte outside the lent memory is touched. The reader is where it was, with the state that it had (`show`), so asking again gives the same answer.",
             "the guest points outside its memory; nothing has moved",
         ),
-        scene(
+        Scene::new(
             "A table that leads out of memory",
             "A guest of 256 bytes says that its segment table begins at 0xc0 and has 5 entries of 16 bytes: its end would be at 0x110.",
-            "memory 0x100\nring events new\nring events configure 0xc0 5".to_owned(),
+            "memory 0x100\nring events new\nring events configure 0xc0 5",
             "The whole table must be inside memory, also the entries that nobody has used yet.",
             "the table ends outside memory; the ring is still not configured",
         ),
-        scene(
+        Scene::new(
             "A segment that leads out of memory",
             "The table is at 0x0 with one entry: a segment at 0xc0 of 5 slots, whose end would be at 0x110.",
-            "memory 0x100\npoke 0x0 c000000000000000 05\nring events new\nring events configure 0x0 1".to_owned(),
+            "memory 0x100\npoke 0x0 c000000000000000 05\nring events new\nring events configure 0x0 1",
             "The table can be read, and what stands in it is not allowed. That is 5 and not 1: the fault is in an entry. \
              A base that is no multiple of 64 and a size of 0 or above 4096 are 5 too.",
             "an entry of the table is wrong; the ring is still not configured",

@@ -3,15 +3,12 @@
 use super::Scene;
 
 pub fn scenes() -> Vec<Scene> {
-    let scene = |title: &str, done: &str, script: &str, read: &str, meaning| Scene {
-        title: title.to_owned(),
-        done: done.to_owned(),
-        script: script.to_owned(),
-        read: read.to_owned(),
-        meaning,
-    };
+    [filled(), drained()].into_iter().flatten().collect()
+}
+
+fn filled() -> Vec<Scene> {
     vec![
-        scene(
+        Scene::new(
             "A ring filled",
             "A table at 0x0 with two segments of two slots: 0x40, 0x50 and 0x80, 0x90. Ring and reader are configured on it. \
              Three events come; the driver's last report is still the first slot, 0x40.",
@@ -28,7 +25,7 @@ pub fn scenes() -> Vec<Scene> {
             "Three of four slots are used, each with cycle bit 1. The ring went on from 0x50 to 0x80, the next segment; the cycle does not flip there.",
             "three events stand in the ring, none is taken",
         ),
-        scene(
+        Scene::new(
             "One event too many",
             "A fourth event, with the same report.",
             "ring events add 0x40 port=4",
@@ -36,14 +33,19 @@ pub fn scenes() -> Vec<Scene> {
              would look the same. Nothing was written and the ring has not moved: the caller keeps its event and tries again. usbvfiod panics here.",
             "full: keep the event and add it again later; nothing is lost",
         ),
-        scene(
+        Scene::new(
             "Taken is not reported",
             "The late driver takes one event, but reports nothing; the fourth event is tried again.",
             "reader driver take\nring events add 0x40 port=4",
             "The ring cannot see what was taken. It believes the report alone, and that is still 0x40.",
             "still full: only a report makes room",
         ),
-        scene(
+    ]
+}
+
+fn drained() -> Vec<Scene> {
+    vec![
+        Scene::new(
             "Drained",
             "The driver takes all that is left.",
             "reader driver take\nreader driver take\nreader driver take",
@@ -51,14 +53,14 @@ pub fn scenes() -> Vec<Scene> {
              here \"none\" does mean that nothing is there.",
             "every accepted event was taken",
         ),
-        scene(
+        Scene::new(
             "Reported",
             "The driver reports its place, 0x90; the fourth event is tried again.",
             "ring events add 0x90 port=4",
             "Now there is room. The event stands at 0x90, the last slot, and the ring enters entry 0 again: its cycle is 0 from now on.",
             "the event that was refused is in, and the ring begins its second pass",
         ),
-        scene(
+        Scene::new(
             "Lapped",
             "A fifth event is written over the first one at 0x40. The driver takes what is there.",
             "ring events add 0x90 port=5\nreader driver take\nreader driver take\nreader driver take",

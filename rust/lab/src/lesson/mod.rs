@@ -22,6 +22,18 @@ pub struct Scene {
     pub meaning: &'static str,
 }
 
+impl Scene {
+    fn new(title: &str, done: &str, script: &str, read: &str, meaning: &'static str) -> Self {
+        Self {
+            title: title.to_owned(),
+            done: done.to_owned(),
+            script: script.to_owned(),
+            read: read.to_owned(),
+            meaning,
+        }
+    }
+}
+
 pub struct Lesson {
     pub title: &'static str,
     pub scenes: Vec<Scene>,
