@@ -37,6 +37,10 @@ pub enum Start {
 }
 
 impl Capture {
+    pub fn new(memory: Vec<u8>, rings: Vec<Ring>) -> Self {
+        Self { memory, rings }
+    }
+
     pub fn memory(&self) -> GuestMemory<'_> {
         GuestMemory::new(&self.memory)
     }
@@ -64,7 +68,7 @@ impl Capture {
             }
             words.end()
         })?;
-        Ok(Self { memory, rings })
+        Ok(Self::new(memory, rings))
     }
 
     /// A raw image that begins at an address; memory before it counts as zero.
@@ -79,7 +83,7 @@ impl Capture {
         // Below the limit, so it fits.
         let mut memory = vec![0; base as usize];
         memory.extend(bytes);
-        Ok(Self { memory, rings })
+        Ok(Self::new(memory, rings))
     }
 }
 

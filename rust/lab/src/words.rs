@@ -192,8 +192,8 @@ fn filled_words(at: u64, length: usize, byte: u8) -> String {
 
 fn inside_words(at: u64, length: u64, inside: bool) -> String {
     match inside {
-        true => format!("yes: {length} bytes from {at:#x} on are inside memory"),
-        false => format!("no: {length} bytes from {at:#x} on are not all inside memory"),
+        true => format!("yes: inside memory (from {at:#x} on, length {length})"),
+        false => format!("no: not all inside memory (from {at:#x} on, length {length})"),
     }
 }
 
