@@ -7,8 +7,11 @@ use crate::lines::{quoted, Words};
 use crate::output::Stop;
 use crate::script::MEMORY_LIMIT;
 use crate::trbs::Kind;
+use crate::world::zeroed;
 use lomvigast::{GuestMemory, GuestMemoryMut};
-use std::fs;
+use std::fmt::Display;
+use std::fs::File;
+use std::io::Read;
 use std::path::Path;
 
 /// The length of memory where the user names none: 128 MiB.
@@ -47,7 +50,7 @@ impl Capture {
 
     /// The capture in a folder.
     pub fn of_folder(folder: &Path, length: usize) -> Result<Self, Stop> {
-        let mut memory = vec![0; length];
+        let mut memory = zeroed(length).map_err(Stop::Misuse)?;
         each_line(&folder.join("trbs.txt"), |words| {
             let address = words.number("ADDRESS")?;
             let bytes = words.hex("BYTES")?;
@@ -73,7 +76,7 @@ impl Capture {
 
     /// A raw image that begins at an address; memory before it counts as zero.
     pub fn of_image(image: &Path, base: u64, rings: Vec<Ring>) -> Result<Self, Stop> {
-        let bytes = fs::read(image).map_err(|error| unreadable(image, error))?;
+        let bytes = read(image)?;
         let end = base.saturating_add(bytes.len() as u64);
         if end > MEMORY_LIMIT as u64 {
             return Err(Stop::Misuse(format!(
@@ -81,8 +84,9 @@ impl Capture {
             )));
         }
         // Below the limit, so it fits.
-        let mut memory = vec![0; base as usize];
-        memory.extend(bytes);
+        let (base, end) = (base as usize, end as usize);
+        let mut memory = zeroed(end).map_err(Stop::Misuse)?;
+        memory[base..].copy_from_slice(&bytes);
         Ok(Self::new(memory, rings))
     }
 }
@@ -129,20 +133,36 @@ fn ring_line(kind: &str, table: Option<Start>, words: &mut Words<'_>) -> Result<
 /// Reads a file line by line, leaving out those without a word.
 fn each_line(
     file: &Path,
-    mut read: impl FnMut(&mut Words<'_>) -> Result<(), String>,
+    mut heed: impl FnMut(&mut Words<'_>) -> Result<(), String>,
 ) -> Result<(), Stop> {
-    let text = fs::read_to_string(file).map_err(|error| unreadable(file, error))?;
+    let text = String::from_utf8(read(file)?);
+    let text = text.map_err(|_| unreadable(file, "it is not text in UTF-8"))?;
     for (number, line) in (1..).zip(text.lines()) {
         let mut words = Words::new(line);
         if words.clone().optional().is_none() {
             continue;
         }
-        read(&mut words)
+        heed(&mut words)
             .map_err(|fault| Stop::Misuse(format!("{}, line {number}: {fault}", file.display())))?;
     }
     Ok(())
 }
 
-fn unreadable(file: &Path, error: std::io::Error) -> Stop {
-    Stop::Misuse(format!("{} cannot be read: {error}", file.display()))
+/// All bytes of a file, up to the limit of memory. A file without an end, such as a device, is not read for ever.
+fn read(file: &Path) -> Result<Vec<u8>, Stop> {
+    let mut bytes = Vec::new();
+    let read = File::open(file)
+        .and_then(|open| open.take(MEMORY_LIMIT as u64 + 1).read_to_end(&mut bytes));
+    match read {
+        Err(error) => Err(unreadable(file, error)),
+        Ok(length) if length > MEMORY_LIMIT => {
+            let fault = format!("it has more than {MEMORY_LIMIT} bytes");
+            Err(unreadable(file, fault))
+        }
+        Ok(_) => Ok(bytes),
+    }
+}
+
+fn unreadable(file: &Path, why: impl Display) -> Stop {
+    Stop::Misuse(format!("{} cannot be read: {why}", file.display()))
 }

@@ -82,21 +82,33 @@ pub const FORMS: &[(&str, &str)] = &[
 
 #[derive(Debug, Clone, PartialEq)]
 pub enum Command {
-    Memory(usize),
-    Poke(u64, Vec<u8>),
-    Peek(u64, usize),
-    Inside(u64, u64),
-    /// The address, and 2, 4 or 8.
-    Read(u64, u8),
-    ReadTrb(u64),
-    WriteTrb(u64, RawTrbBuffer),
-    CodeOf(u8),
-    ClassOf(u8),
+    Memory(MemoryCall),
+    Value(ValueCall),
     Trb(TrbCall, Source),
-    EventBytes(bool, Event),
     Linked(String, LinkedCall),
     Ring(String, RingCall),
     Reader(String, ReaderCall),
+}
+
+#[derive(Debug, Clone, PartialEq)]
+pub enum MemoryCall {
+    New(usize),
+    Poke(u64, Vec<u8>),
+    Peek(u64, usize),
+    Inside(u64, u64),
+    Read2(u64),
+    Read4(u64),
+    Read8(u64),
+    ReadTrb(u64),
+    WriteTrb(u64, RawTrbBuffer),
+}
+
+/// What is asked of values alone.
+#[derive(Debug, Clone, Copy, PartialEq)]
+pub enum ValueCall {
+    CodeOf(u8),
+    ClassOf(u8),
+    EventBytes(bool, Event),
 }
 
 /// What is asked of sixteen bytes.
@@ -203,22 +215,27 @@ fn with_form(line: &str, fault: Fault) -> Fault {
 }
 
 fn command(name: &str, words: &mut Words<'_>) -> Result<Command, Fault> {
+    use MemoryCall as M;
+    use ValueCall as V;
     Ok(match name {
-        "memory" => Command::Memory(limited(words, "LENGTH", MEMORY_LIMIT)?),
-        "poke" => Command::Poke(words.number("ADDRESS")?, words.hex("HEX")?),
-        "peek" => Command::Peek(
-            words.number("ADDRESS")?,
-            limited(words, "LENGTH", PEEK_LIMIT)?,
-        ),
-        "inside" => Command::Inside(words.number("ADDRESS")?, words.number("LENGTH")?),
-        "read2" => Command::Read(words.number("ADDRESS")?, 2),
-        "read4" => Command::Read(words.number("ADDRESS")?, 4),
-        "read8" => Command::Read(words.number("ADDRESS")?, 8),
-        "read_trb" => Command::ReadTrb(words.number("ADDRESS")?),
-        "write_trb" => Command::WriteTrb(words.number("ADDRESS")?, sixteen(words)?),
-        "code_of" => Command::CodeOf(words.number("BYTE")?),
-        "class_of" => Command::ClassOf(words.number("BYTE")?),
-        "event_bytes" => Command::EventBytes(words.bit("CYCLE")?, event(words)?),
+        "memory" => Command::Memory(M::New(limited(words, "LENGTH", MEMORY_LIMIT)?)),
+        "poke" => Command::Memory(M::Poke(words.number("ADDRESS")?, words.hex("HEX")?)),
+        "peek" => {
+            let address = words.number("ADDRESS")?;
+            Command::Memory(M::Peek(address, limited(words, "LENGTH", PEEK_LIMIT)?))
+        }
+        "inside" => {
+            let address = words.number("ADDRESS")?;
+            Command::Memory(M::Inside(address, words.number("LENGTH")?))
+        }
+        "read2" => Command::Memory(M::Read2(words.number("ADDRESS")?)),
+        "read4" => Command::Memory(M::Read4(words.number("ADDRESS")?)),
+        "read8" => Command::Memory(M::Read8(words.number("ADDRESS")?)),
+        "read_trb" => Command::Memory(M::ReadTrb(words.number("ADDRESS")?)),
+        "write_trb" => Command::Memory(M::WriteTrb(words.number("ADDRESS")?, sixteen(words)?)),
+        "code_of" => Command::Value(V::CodeOf(words.number("BYTE")?)),
+        "class_of" => Command::Value(V::ClassOf(words.number("BYTE")?)),
+        "event_bytes" => Command::Value(V::EventBytes(words.bit("CYCLE")?, event(words)?)),
         "linked" => Command::Linked(named(words)?, linked_call(words)?),
         "ring" => Command::Ring(named(words)?, ring_call(words)?),
         "reader" => Command::Reader(named(words)?, reader_call(words)?),
@@ -420,8 +437,9 @@ mod tests {
             endpoint: 3,
             slot: 2,
         };
-        assert_eq!(parse(line), Ok(Some(Command::EventBytes(true, event))));
-        let port = Command::EventBytes(false, Event::Port(3));
+        let bytes = |cycle, event| Command::Value(ValueCall::EventBytes(cycle, event));
+        assert_eq!(parse(line), Ok(Some(bytes(true, event))));
+        let port = bytes(false, Event::Port(3));
         assert_eq!(parse("event_bytes 0 port=3"), Ok(Some(port)));
         assert!(fault("event_bytes 0 port=256").contains("2^8"));
         assert!(fault("event_bytes 0 port=1 slot=1").contains("slot"));

@@ -1,7 +1,9 @@
 //! Guest memory, and the rings and readers on it by name. A command done gives an answer.
 
 use crate::lines::Fault;
-use crate::script::{Command, Event, LinkedCall, ReaderCall, RingCall, Source, TrbCall};
+use crate::script::{
+    Command, Event, LinkedCall, MemoryCall, ReaderCall, RingCall, Source, TrbCall, ValueCall,
+};
 use crate::trbs;
 use lomvigast::event_ring::{EventReader, EventRing, RingState};
 use lomvigast::linked_ring::{self, LinkedRing, Notes};
@@ -11,6 +13,7 @@ use lomvigast::trb::{
 };
 use lomvigast::{GuestMemory, GuestMemoryMut, Refusal};
 use std::collections::BTreeMap;
+use std::hint::black_box;
 
 /// What came back from a command. `words` says it in words.
 #[derive(Debug, Clone, PartialEq)]
@@ -96,11 +99,12 @@ impl World {
     /// Does a command. A fault, such as a name that nothing has, leaves all as it was.
     pub fn execute(&mut self, command: &Command) -> Result<Answer, Fault> {
         let answer = match command {
+            Command::Memory(call) => self.on_memory(call),
+            Command::Value(call) => on_values(*call),
             Command::Linked(name, call) => self.on_linked(name, call),
             Command::Ring(name, call) => self.on_ring(name, call),
             Command::Reader(name, call) => self.on_reader(name, call),
             Command::Trb(call, source) => self.on_trb(*call, *source),
-            _ => self.on_memory(command),
         };
         match answer {
             Ok(answer) => Ok(answer),
@@ -129,38 +133,31 @@ impl World {
         readers.map(|(name, reader)| (name.as_str(), reader.state()))
     }
 
-    /// The commands that need no name.
-    fn on_memory(&mut self, command: &Command) -> Result<Answer, Stop> {
-        let memory = GuestMemory::new(&self.memory);
-        Ok(match *command {
-            Command::Memory(length) => {
-                self.memory = vec![0; length];
+    fn on_memory(&mut self, call: &MemoryCall) -> Result<Answer, Stop> {
+        let memory = self.memory();
+        Ok(match *call {
+            MemoryCall::New(length) => {
+                self.memory = zeroed(length).map_err(Stop::Fault)?;
                 Answer::Memory(length)
             }
-            Command::Poke(address, ref bytes) => {
+            MemoryCall::Poke(address, ref bytes) => {
                 self.part(address, bytes.len())?.copy_from_slice(bytes);
                 Answer::Poked(address, bytes.len())
             }
-            Command::Peek(address, length) => {
+            MemoryCall::Peek(address, length) => {
                 Answer::Part(address, self.part(address, length)?.to_vec())
             }
-            Command::Inside(address, length) => {
+            MemoryCall::Inside(address, length) => {
                 Answer::Inside(address, length, memory.inside(address, length))
             }
-            Command::Read(address, 2) => Answer::Number(memory.read2(address)?.into()),
-            Command::Read(address, 4) => Answer::Number(memory.read4(address)?.into()),
-            Command::Read(address, _) => Answer::Number(memory.read8(address)?),
-            Command::ReadTrb(address) => Answer::Raw(address, memory.read_trb(address)?),
-            Command::WriteTrb(address, trb) => {
+            MemoryCall::Read2(address) => Answer::Number(memory.read2(address)?.into()),
+            MemoryCall::Read4(address) => Answer::Number(memory.read4(address)?.into()),
+            MemoryCall::Read8(address) => Answer::Number(memory.read8(address)?),
+            MemoryCall::ReadTrb(address) => Answer::Raw(address, memory.read_trb(address)?),
+            MemoryCall::WriteTrb(address, trb) => {
                 GuestMemoryMut::new(&mut self.memory).write_trb(address, &trb)?;
                 Answer::Written(address)
             }
-            Command::CodeOf(byte) => Answer::Code(CompletionCode::try_from(byte)?),
-            Command::ClassOf(byte) => Answer::Class(byte, Class::of(byte)),
-            Command::EventBytes(cycle, event) => {
-                Answer::EventBytes(of_fields(event)?.to_bytes(cycle)?)
-            }
-            _ => unreachable!("`execute` keeps the other commands"),
         })
     }
 
@@ -294,6 +291,29 @@ impl World {
             ReaderCall::State | ReaderCall::FromState(_) => Answer::State(reader.state()),
         })
     }
+}
+
+/// Memory of zeros, if the machine has so much.
+pub fn zeroed(length: usize) -> Result<Vec<u8>, Fault> {
+    // `vec!`, which is quick, ends the program where there is too little. So this is tried first; the compiler would leave
+    // out a reservation that nobody sees.
+    let mut tried = Vec::<u8>::new();
+    let enough = tried.try_reserve_exact(length).is_ok();
+    drop(black_box(tried));
+    match enough {
+        true => Ok(vec![0; length]),
+        false => Err(format!("this machine has no {length} bytes left")),
+    }
+}
+
+fn on_values(call: ValueCall) -> Result<Answer, Stop> {
+    Ok(match call {
+        ValueCall::CodeOf(byte) => Answer::Code(CompletionCode::try_from(byte)?),
+        ValueCall::ClassOf(byte) => Answer::Class(byte, Class::of(byte)),
+        ValueCall::EventBytes(cycle, event) => {
+            Answer::EventBytes(of_fields(event)?.to_bytes(cycle)?)
+        }
+    })
 }
 
 /// Looks for the next TRB of a linked ring.
