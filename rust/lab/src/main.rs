@@ -1,5 +1,5 @@
 use lab::command_line;
-use lab::output::{Output, Stop};
+use lab::output::{colour_wanted, Output, Stop};
 use std::ffi::OsString;
 use std::io::{self, ErrorKind, Write};
 use std::process::ExitCode;
@@ -10,7 +10,8 @@ const MISUSE: u8 = 2;
 fn main() -> ExitCode {
     let arguments: Vec<OsString> = std::env::args_os().skip(1).collect();
     let mut standard = io::stdout().lock();
-    match command_line::main(&arguments, &mut Output::standard(&mut standard)) {
+    let mut out = Output::new(&mut standard, colour_wanted());
+    match command_line::main(&arguments, &mut out) {
         Ok(()) => ExitCode::SUCCESS,
         // Whoever read the answers has read enough.
         Err(Stop::Output(error)) if error.kind() == ErrorKind::BrokenPipe => ExitCode::SUCCESS,

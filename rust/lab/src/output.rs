@@ -19,6 +19,12 @@ impl From<io::Error> for Stop {
     }
 }
 
+/// Whether standard output is a terminal, and NO_COLOR is not set.
+pub fn colour_wanted() -> bool {
+    let unwanted = env::var_os("NO_COLOR").is_some_and(|value| !value.is_empty());
+    io::stdout().is_terminal() && !unwanted
+}
+
 /// Lines of text, with colour or without.
 pub struct Output<'a> {
     to: &'a mut dyn Write,
@@ -26,15 +32,12 @@ pub struct Output<'a> {
 }
 
 impl<'a> Output<'a> {
-    pub fn plain(to: &'a mut dyn Write) -> Self {
-        Self { to, colour: false }
+    pub fn new(to: &'a mut dyn Write, colour: bool) -> Self {
+        Self { to, colour }
     }
 
-    /// With colour if standard output, which `to` is, is a terminal and NO_COLOR is not set.
-    pub fn standard(to: &'a mut dyn Write) -> Self {
-        let unwanted = env::var_os("NO_COLOR").is_some_and(|value| !value.is_empty());
-        let colour = io::stdout().is_terminal() && !unwanted;
-        Self { to, colour }
+    pub fn plain(to: &'a mut dyn Write) -> Self {
+        Self::new(to, false)
     }
 
     pub fn line(&mut self, text: impl fmt::Display) -> io::Result<()> {

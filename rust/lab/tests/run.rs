@@ -185,6 +185,40 @@ fn a_million_lines_have_a_million_answers() {
 }
 
 #[test]
+fn the_answers_of_a_chase_differ_in_colour_too() {
+    let script = "memory 0x30\nlinked a new 0 1\nlinked a next_trb\n\
+        write_trb 0 0000000000000000 00000000 01180000\nlinked a next_trb\n\
+        write_trb 0 0000000000000000 00000000 01040000\nlinked a next_trb\n\
+        linked a set_place 0x30 1\nlinked a next_trb\n";
+    let mut said = Vec::new();
+    run(
+        &mut script.as_bytes(),
+        false,
+        &mut Output::new(&mut said, true),
+    )
+    .expect("can be read");
+    let said = String::from_utf8(said).expect("text");
+    let starts: Vec<&str> = said
+        .lines()
+        .filter_map(|line| line.split_once(':'))
+        .map(|(start, _)| start)
+        .collect();
+    let coloured: Vec<&str> = starts
+        .into_iter()
+        .filter(|start| start.starts_with('\x1b'))
+        .collect();
+    assert_eq!(
+        coloured,
+        [
+            "\x1b[36mnothing new",
+            "\x1b[1;31mGAVE UP",
+            "\x1b[32mTRB at 0x0",
+            "\x1b[33mrefused 1"
+        ]
+    );
+}
+
+#[test]
 fn json_has_the_number_by_its_name() {
     let mut said = Vec::new();
     let script = "\ncode_of 30\nmemory 4\n";

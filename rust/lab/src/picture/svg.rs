@@ -176,26 +176,24 @@ impl Scene<'_> {
         svg + &self.marks_below(slot, middle, y)
     }
 
+    /// Readers and report below a slot, each in a line of its own.
     fn marks_below(&self, slot: u64, middle: u32, y: u32) -> String {
-        let here = self
-            .readers
-            .iter()
-            .filter(|(_, reader)| reader.place == slot);
+        let readers = self.readers.iter();
+        let here = readers.filter(|(_, reader)| reader.place == slot);
         let names: Vec<&str> = here.map(|(name, _)| *name).collect();
-        let mut svg = match names[..] {
-            [] => String::new(),
-            [name] => label(middle, y + 91, "#05a", &format!("\u{25b2} {}", short(name))),
-            _ => label(
-                middle,
-                y + 91,
-                "#05a",
-                &format!("\u{25b2} {}", count(names.len(), "reader")),
-            ),
+        let mut marks = match names[..] {
+            [] => vec![],
+            [name] => vec![("#05a", format!("\u{25b2} {}", short(name)))],
+            _ => vec![("#05a", format!("\u{25b2} {}", count(names.len(), "reader")))],
         };
         if self.tracked.report == Some(slot) {
-            svg += &label(middle, y + 107, "#063", "\u{25c6} report");
+            marks.push(("#063", "\u{25c6} report".to_owned()));
         }
-        svg
+        let lines = (0..).map(|n| y + 91 + 16 * n);
+        let marks = lines.zip(&marks);
+        marks
+            .map(|(y, (colour, text))| label(middle, y, colour, text))
+            .collect()
     }
 }
 
