@@ -28,7 +28,8 @@ What was done, what came back and how to read it; then a line for each: answer, 
   2  books that part: each entry of docs/DIFFERENCES.md
   3  a late reader: a ring filled, refused with 7, drained, lapped
 
-Without a number: all three. The lines after > are a script, as `lomvigast run` takes it.";
+Without a number: all three. The lines after > are a script, as `lomvigast run` takes it; of a long
+row of one kind the middle is left out.";
 
 pub const SHOW: &str = "\
 lomvigast show [--json] [--length BYTES] DIR
