@@ -1,0 +1,168 @@
+//! Captures: guest memory, and where its rings begin.
+//!
+//! A capture is a folder with trbs.txt (`ADDRESS BYTES`, sixteen bytes in hex) and rings.txt (the event ring's table, then
+//! a line for each ring); all memory that is not listed is 0. Or it is a raw image, and the user says where its rings begin.
+
+use crate::lines::{quoted, Words};
+use crate::output::Stop;
+use crate::script::MEMORY_LIMIT;
+use crate::trbs::Kind;
+use crate::world::zeroed;
+use lomvigast::{GuestMemory, GuestMemoryMut};
+use std::fmt::Display;
+use std::fs::File;
+use std::io::Read;
+use std::path::Path;
+
+/// The length of memory where the user names none: 128 MiB.
+pub const LENGTH: usize = 128 << 20;
+
+pub struct Capture {
+    memory: Vec<u8>,
+    pub rings: Vec<Ring>,
+}
+
+pub struct Ring {
+    pub kind: Kind,
+    pub name: String,
+    pub start: Start,
+    /// Where the driver said it stood: its dequeue place on an event ring, else its enqueue place.
+    pub driver: Option<u64>,
+}
+
+/// Where a reader begins.
+#[derive(Debug, Clone, Copy, PartialEq, Eq)]
+pub enum Start {
+    /// A place and a cycle state.
+    Linked(u64, bool),
+    /// A segment table's base and number of entries.
+    Table(u64, u16),
+}
+
+impl Capture {
+    pub fn new(memory: Vec<u8>, rings: Vec<Ring>) -> Self {
+        Self { memory, rings }
+    }
+
+    pub fn memory(&self) -> GuestMemory<'_> {
+        GuestMemory::new(&self.memory)
+    }
+
+    /// The capture in a folder.
+    pub fn of_folder(folder: &Path, length: usize) -> Result<Self, Stop> {
+        let mut memory = zeroed(length).map_err(Stop::Misuse)?;
+        each_line(&folder.join("trbs.txt"), |words| {
+            let address = words.number("ADDRESS")?;
+            let bytes = words.hex("BYTES")?;
+            let trb = bytes
+                .try_into()
+                .map_err(|bytes: Vec<u8>| format!("16 bytes, not {}", bytes.len()))?;
+            let written = GuestMemoryMut::new(&mut memory).write_trb(address, &trb);
+            written.map_err(|_| {
+                format!("{address:#x} is beyond the {length} bytes of guest memory (see --length)")
+            })
+        })?;
+        let mut table = None;
+        let mut rings = Vec::new();
+        each_line(&folder.join("rings.txt"), |words| {
+            match words.word("what the line is of")? {
+                "table" => table = Some(table_line(words)?),
+                kind => rings.push(ring_line(kind, table, words)?),
+            }
+            words.end()
+        })?;
+        Ok(Self::new(memory, rings))
+    }
+
+    /// A raw image that begins at an address; memory before it counts as zero.
+    pub fn of_image(image: &Path, base: u64, rings: Vec<Ring>) -> Result<Self, Stop> {
+        let bytes = read(image)?;
+        let end = base.saturating_add(bytes.len() as u64);
+        if end > MEMORY_LIMIT as u64 {
+            return Err(Stop::Misuse(format!(
+                "the image would end at {end:#x}, and memory from address 0 to there is above the limit of {MEMORY_LIMIT} bytes"
+            )));
+        }
+        // Below the limit, so it fits.
+        let (base, end) = (base as usize, end as usize);
+        let mut memory = zeroed(end).map_err(Stop::Misuse)?;
+        memory[base..].copy_from_slice(&bytes);
+        Ok(Self::new(memory, rings))
+    }
+}
+
+fn table_line(words: &mut Words<'_>) -> Result<Start, String> {
+    let base = words.number("ADDRESS")?;
+    words.exactly("entries")?;
+    Ok(Start::Table(base, words.number("the number of entries")?))
+}
+
+fn ring_line(kind: &str, table: Option<Start>, words: &mut Words<'_>) -> Result<Ring, String> {
+    let name = words.word("the ring's name")?.to_owned();
+    words.exactly("first")?;
+    let first = words.number("the first slot")?;
+    words.exactly("cycle")?;
+    words.bit("the driver's cycle state")?;
+    words.exactly("dequeue")?;
+    let dequeue = words.number("the dequeue place")?;
+    words.exactly("enqueue")?;
+    let enqueue = words.number("the enqueue place")?;
+    let (kind, start, driver) = match kind {
+        // A ring's first pass has cycle state 1.
+        "command" => (Kind::Command, Start::Linked(first, true), enqueue),
+        "transfer" => (Kind::Transfer, Start::Linked(first, true), enqueue),
+        "event" => {
+            let table = table.ok_or("an event ring needs a line `table` before it")?;
+            (Kind::Event, table, dequeue)
+        }
+        _ => {
+            let kind = quoted(kind);
+            return Err(format!(
+                "a line begins with table, command, transfer or event, not with {kind}"
+            ));
+        }
+    };
+    Ok(Ring {
+        kind,
+        name,
+        start,
+        driver: Some(driver),
+    })
+}
+
+/// Reads a file line by line, leaving out those without a word.
+fn each_line(
+    file: &Path,
+    mut heed: impl FnMut(&mut Words<'_>) -> Result<(), String>,
+) -> Result<(), Stop> {
+    let text = String::from_utf8(read(file)?);
+    let text = text.map_err(|_| unreadable(file, "it is not text in UTF-8"))?;
+    for (number, line) in (1..).zip(text.lines()) {
+        let mut words = Words::new(line);
+        if words.clone().optional().is_none() {
+            continue;
+        }
+        heed(&mut words)
+            .map_err(|fault| Stop::Misuse(format!("{}, line {number}: {fault}", file.display())))?;
+    }
+    Ok(())
+}
+
+/// All bytes of a file, up to the limit of memory. A file without an end, such as a device, is not read for ever.
+fn read(file: &Path) -> Result<Vec<u8>, Stop> {
+    let mut bytes = Vec::new();
+    let read = File::open(file)
+        .and_then(|open| open.take(MEMORY_LIMIT as u64 + 1).read_to_end(&mut bytes));
+    match read {
+        Err(error) => Err(unreadable(file, error)),
+        Ok(length) if length > MEMORY_LIMIT => {
+            let fault = format!("it has more than {MEMORY_LIMIT} bytes");
+            Err(unreadable(file, fault))
+        }
+        Ok(_) => Ok(bytes),
+    }
+}
+
+fn unreadable(file: &Path, why: impl Display) -> Stop {
+    Stop::Misuse(format!("{} cannot be read: {why}", file.display()))
+}

@@ -1,0 +1,18 @@
+//! The lab: what trainers, field chemists and support engineers run over the proved core.
+
+#![forbid(unsafe_code)]
+
+pub mod capture;
+pub mod command_line;
+mod help;
+mod json;
+pub mod lesson;
+pub mod lines;
+pub mod output;
+pub mod picture;
+pub mod run;
+pub mod script;
+pub mod show;
+pub mod trbs;
+pub mod words;
+pub mod world;

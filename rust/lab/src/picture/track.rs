@@ -1,0 +1,247 @@
+//! What has become of each slot of each event ring, as a script goes on.
+
+use crate::run::Step;
+use crate::script::{Command, ReaderCall, RingCall};
+use crate::world::{Answer, World};
+use lomvigast::event_ring::RingState;
+use lomvigast::{GuestMemory, Refusal};
+use std::collections::{BTreeMap, HashMap};
+
+#[derive(Debug, Clone, Copy, PartialEq, Eq)]
+pub enum Use {
+    /// Never used since the ring was configured.
+    Free,
+    /// Holds an event that no reader on this table has taken.
+    Accepted,
+    /// Holds an event that was taken and not reported.
+    Taken,
+    /// Held an event that was taken and reported: may be used again.
+    Reported,
+}
+
+#[derive(Debug, Clone, Copy, PartialEq, Eq)]
+pub struct Segment {
+    pub base: u64,
+    pub size: u32,
+}
+
+impl Segment {
+    pub fn slots(self) -> impl Iterator<Item = u64> {
+        (0..u64::from(self.size)).map(move |n| self.base + 16 * n)
+    }
+
+    /// An entry of a table, or `None` if it is one that refusal 1 or 5 is for.
+    fn of_entry(memory: GuestMemory<'_>, entry: u64) -> Option<Self> {
+        let base = memory.read8(entry).ok()?;
+        let size = memory.read4(entry.checked_add(8)?).ok()?;
+        let allowed = base % 64 == 0
+            && (1..=4096).contains(&size)
+            && memory.inside(base, 16 * u64::from(size));
+        allowed.then_some(Self { base, size })
+    }
+}
+
+/// A ring that is configured, and what is known of its slots.
+pub struct Tracked {
+    table: u64,
+    entries: u16,
+    /// As the table said at configure.
+    pub segments: Vec<Option<Segment>>,
+    /// The driver's last report.
+    pub report: Option<u64>,
+    uses: HashMap<u64, Use>,
+}
+
+impl Tracked {
+    fn new(state: &RingState, memory: GuestMemory<'_>, report: Option<u64>) -> Self {
+        const MOST_ENTRIES: u16 = 16;
+        let entries = 0..u64::from(state.entries.min(MOST_ENTRIES));
+        let segment = |n| Segment::of_entry(memory, state.table.checked_add(16 * n)?);
+        Self {
+            table: state.table,
+            entries: state.entries,
+            segments: entries.map(segment).collect(),
+            report,
+            uses: HashMap::new(),
+        }
+    }
+
+    pub fn used(&self, slot: u64) -> Use {
+        self.uses.get(&slot).copied().unwrap_or(Use::Free)
+    }
+
+    /// All slots, in the ring's order.
+    pub fn slots(&self) -> impl Iterator<Item = u64> + '_ {
+        self.segments
+            .iter()
+            .flatten()
+            .flat_map(|segment| segment.slots())
+    }
+
+    /// Whether a reader goes over this ring's segments.
+    pub fn read_by(&self, reader: &RingState) -> bool {
+        reader.ready && (reader.table, reader.entries) == (self.table, self.entries)
+    }
+
+    /// The driver reports a place: what was taken between the last report and this one is reported.
+    fn reported(&mut self, place: u64) {
+        let order: Vec<u64> = self.slots().collect();
+        let at = |place| order.iter().position(|&slot| slot == place);
+        if let (Some(from), Some(to)) = (self.report.and_then(at), at(place)) {
+            let passed = (to + order.len() - from) % order.len();
+            for slot in order.iter().cycle().skip(from).take(passed) {
+                self.turn(*slot, Use::Taken, Use::Reported);
+            }
+        }
+        self.report = Some(place);
+    }
+
+    fn turn(&mut self, slot: u64, from: Use, to: Use) {
+        if let Some(used) = self.uses.get_mut(&slot).filter(|used| **used == from) {
+            *used = to;
+        }
+    }
+}
+
+#[derive(Default)]
+pub struct Track {
+    rings: BTreeMap<String, Tracked>,
+}
+
+impl Track {
+    pub fn ring(&self, name: &str) -> Option<&Tracked> {
+        self.rings.get(name)
+    }
+
+    /// Heeds a command that was done.
+    pub fn step(&mut self, step: &Step<'_>) {
+        match step.command {
+            Command::Ring(name, call) => self.on_ring(name, call, step),
+            Command::Reader(name, ReaderCall::Take) => self.on_take(name, step),
+            _ => {}
+        }
+    }
+
+    fn on_ring(&mut self, name: &str, call: &RingCall, step: &Step<'_>) {
+        let memory = step.world.memory();
+        match (call, step.answer) {
+            (RingCall::Configure(..), Answer::Configured(state)) => {
+                // The driver's first report is the first slot.
+                let tracked = Tracked::new(state, memory, Some(state.place));
+                self.rings.insert(name.to_owned(), tracked);
+            }
+            (RingCall::FromState(_), Answer::State(state)) if state.ready => {
+                let tracked = Tracked::new(state, memory, None);
+                self.rings.insert(name.to_owned(), tracked);
+            }
+            (RingCall::New | RingCall::Reset | RingCall::FromState(_), _) => {
+                self.rings.remove(name);
+            }
+            (RingCall::Add(report, _), answer) => self.on_add(name, *report, answer),
+            _ => {}
+        }
+    }
+
+    fn on_add(&mut self, name: &str, report: u64, answer: &Answer) {
+        let Some(ring) = self.rings.get_mut(name) else {
+            return;
+        };
+        match answer {
+            Answer::Accepted(accepted) => {
+                ring.reported(report);
+                ring.uses.insert(accepted.slot, Use::Accepted);
+            }
+            // The report was heard; there was no room all the same.
+            Answer::Refused(Refusal::Full, _) => ring.reported(report),
+            _ => {}
+        }
+    }
+
+    fn on_take(&mut self, name: &str, step: &Step<'_>) {
+        let (Answer::Taken(slot, _), Some(reader)) = (step.answer, step.world.reader(name)) else {
+            return;
+        };
+        for ring in self.rings.values_mut().filter(|ring| ring.read_by(&reader)) {
+            ring.turn(*slot, Use::Accepted, Use::Taken);
+        }
+    }
+}
+
+/// The readers that go over a ring's segments, by name.
+pub fn readers<'a>(
+    ring: &'a Tracked,
+    world: &'a World,
+) -> impl Iterator<Item = (&'a str, RingState)> {
+    world.readers().filter(|(_, reader)| ring.read_by(reader))
+}
+
+#[cfg(test)]
+mod tests {
+    use super::*;
+    use crate::run;
+
+    /// The letters of all slots of ring `r` after each command but the first ones.
+    fn uses(script: &str) -> String {
+        let mut track = Track::default();
+        let mut all = String::new();
+        run::each(&mut script.as_bytes(), &mut |step| {
+            track.step(step);
+            let letter = |used| match used {
+                Use::Free => 'F',
+                Use::Accepted => 'A',
+                Use::Taken => 'T',
+                Use::Reported => 'R',
+            };
+            if let Some(ring) = track.ring("r") {
+                all.extend(ring.slots().map(|slot| letter(ring.used(slot))));
+                all.push(' ');
+            }
+            Ok(())
+        })
+        .expect("the script can be read");
+        all
+    }
+
+    /// Two segments of two slots: 0x40, 0x50 and 0x80, 0x90.
+    const START: &str = "memory 0x100\npoke 0 4000000000000000 02\npoke 16 8000000000000000 02\n\
+        reader d new\nreader d configure 0 2\nring r new\nring r configure 0 2\n";
+
+    #[test]
+    fn a_slot_goes_from_free_to_reported_and_is_used_again() {
+        let script = "ring r add 0x40 port=1\nring r add 0x40 port=2\nring r add 0x40 port=3\n\
+            reader d take\nreader d take\nring r add 0x40 port=4\nring r add 0x80 port=4\n\
+            ring r add 0x80 port=5\nring r add 0x33 port=6\nring r reset\n";
+        assert_eq!(
+            uses(&format!("{START}{script}")),
+            "FFFF AFFF AAFF AAAF TAAF TTAF TTAF RRAA ARAA ARAA "
+        );
+    }
+
+    #[test]
+    fn a_report_past_what_was_taken_reports_nothing_else() {
+        let script = "ring r add 0x40 port=1\nring r add 0x40 port=2\nreader d take\nring r add 0x80 port=3\n";
+        assert_eq!(
+            uses(&format!("{START}{script}")),
+            "FFFF AFFF AAFF TAFF RAAF "
+        );
+    }
+
+    #[test]
+    fn a_reader_on_another_table_takes_nothing_from_this_one() {
+        let script =
+            "reader e new\nreader e configure 0 1\nring r add 0x40 port=1\nreader e take\n";
+        assert_eq!(
+            uses(&format!("{START}{script}")),
+            "FFFF FFFF FFFF AFFF AFFF "
+        );
+    }
+
+    #[test]
+    fn entries_that_are_not_allowed_have_no_slots() {
+        let script = "memory 0x100\npoke 0 4000000000000000 02\npoke 16 8100000000000000 02\n\
+            ring r new\nring r configure 0 2\n";
+        assert_eq!(uses(script), "FF ");
+        let wild = "memory 0\nring r from_state ready=1 table=0xffffffffffffffff entries=65535";
+        assert_eq!(uses(wild), " ");
+    }
+}

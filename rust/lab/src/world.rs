@@ -1,0 +1,384 @@
+//! Guest memory, and the rings and readers on it by name. A command done gives an answer.
+
+use crate::lines::Fault;
+use crate::script::{
+    Command, Event, LinkedCall, MemoryCall, ReaderCall, RingCall, Source, TrbCall, ValueCall,
+};
+use crate::trbs;
+use lomvigast::event_ring::{EventReader, EventRing, RingState};
+use lomvigast::linked_ring::{self, LinkedRing, Notes};
+use lomvigast::trb::{
+    self, Class, CommandTrbVariant, CompletionCode, EventTrb, LinkTrb, RawTrbBuffer,
+    TransferTrbVariant, TrbDmaInfo,
+};
+use lomvigast::{GuestMemory, GuestMemoryMut, Refusal};
+use std::collections::BTreeMap;
+use std::hint::black_box;
+
+/// What came back from a command. `words` says it in words.
+#[derive(Debug, Clone, PartialEq)]
+pub enum Answer {
+    /// A refusal, and the bytes that a parser gives back beside it.
+    Refused(Refusal, Option<RawTrbBuffer>),
+    Memory(usize),
+    Poked(u64, usize),
+    /// A part of memory: where it begins, and its bytes.
+    Part(u64, Vec<u8>),
+    /// A part of memory that was filled: where it begins, its length and the byte.
+    Filled(u64, usize, u8),
+    Inside(u64, u64, bool),
+    Number(u64),
+    Raw(u64, RawTrbBuffer),
+    Written(u64),
+    Code(CompletionCode),
+    Class(u8, Class),
+    Type(u8),
+    CycleBit(bool),
+    Link(LinkTrb),
+    /// No Link, but a TRB of this type.
+    NoLink(u8),
+    Command(u8, CommandTrbVariant),
+    Transfer(u8, TransferTrbVariant),
+    Event(EventTrb),
+    EventBytes(RawTrbBuffer),
+    Place(LinkedRing),
+    Chase(Chase),
+    NotConfigured,
+    Configured(RingState),
+    State(RingState),
+    Accepted(Accepted),
+    Taken(u64, RawTrbBuffer),
+    /// No event; the reader's slot, which is stale.
+    None(u64),
+}
+
+/// What a chase came to, and where the ring stands after it.
+#[derive(Debug, Clone, Copy, PartialEq)]
+pub struct Chase {
+    pub answer: linked_ring::Answer,
+    pub notes: Notes,
+    pub place: u64,
+    pub cycle: bool,
+}
+
+/// Where an event was put, with which cycle bit, and where the ring stands after it.
+#[derive(Debug, Clone, Copy, PartialEq)]
+pub struct Accepted {
+    pub slot: u64,
+    pub cycle: bool,
+    pub next: RingState,
+}
+
+/// What a command stops with: a refusal of the core is an answer, a fault of the script is not.
+enum Stop {
+    Refusal(Refusal, Option<RawTrbBuffer>),
+    Fault(Fault),
+}
+
+impl From<Refusal> for Stop {
+    fn from(refusal: Refusal) -> Self {
+        Self::Refusal(refusal, None)
+    }
+}
+
+impl From<trb::Unrecognized> for Stop {
+    fn from(refused: trb::Unrecognized) -> Self {
+        Self::Refusal(refused.refusal, Some(refused.buffer))
+    }
+}
+
+#[derive(Default)]
+pub struct World {
+    memory: Vec<u8>,
+    linked: BTreeMap<String, LinkedRing>,
+    rings: BTreeMap<String, EventRing>,
+    readers: BTreeMap<String, EventReader>,
+}
+
+impl World {
+    /// Does a command. A fault, such as a name that nothing has, leaves all as it was.
+    pub fn execute(&mut self, command: &Command) -> Result<Answer, Fault> {
+        let answer = match command {
+            Command::Memory(call) => self.on_memory(call),
+            Command::Value(call) => on_values(*call),
+            Command::Linked(name, call) => self.on_linked(name, call),
+            Command::Ring(name, call) => self.on_ring(name, call),
+            Command::Reader(name, call) => self.on_reader(name, call),
+            Command::Trb(call, source) => self.on_trb(*call, *source),
+        };
+        match answer {
+            Ok(answer) => Ok(answer),
+            Err(Stop::Refusal(refusal, bytes)) => Ok(Answer::Refused(refusal, bytes)),
+            Err(Stop::Fault(fault)) => Err(fault),
+        }
+    }
+
+    pub fn memory(&self) -> GuestMemory<'_> {
+        GuestMemory::new(&self.memory)
+    }
+
+    /// All event rings by name.
+    pub fn rings(&self) -> impl Iterator<Item = (&str, RingState)> {
+        let rings = self.rings.iter();
+        rings.map(|(name, ring)| (name.as_str(), ring.state()))
+    }
+
+    pub fn reader(&self, name: &str) -> Option<RingState> {
+        self.readers.get(name).map(EventReader::state)
+    }
+
+    /// All readers by name.
+    pub fn readers(&self) -> impl Iterator<Item = (&str, RingState)> {
+        let readers = self.readers.iter();
+        readers.map(|(name, reader)| (name.as_str(), reader.state()))
+    }
+
+    fn on_memory(&mut self, call: &MemoryCall) -> Result<Answer, Stop> {
+        let memory = self.memory();
+        Ok(match *call {
+            MemoryCall::New(length) => {
+                self.memory = zeroed(length).map_err(Stop::Fault)?;
+                Answer::Memory(length)
+            }
+            MemoryCall::Poke(address, ref bytes) => {
+                self.part(address, bytes.len())?.copy_from_slice(bytes);
+                Answer::Poked(address, bytes.len())
+            }
+            MemoryCall::Peek(address, length) => {
+                Answer::Part(address, self.part(address, length)?.to_vec())
+            }
+            MemoryCall::Inside(address, length) => {
+                Answer::Inside(address, length, memory.inside(address, length))
+            }
+            MemoryCall::Read2(address) => Answer::Number(memory.read2(address)?.into()),
+            MemoryCall::Read4(address) => Answer::Number(memory.read4(address)?.into()),
+            MemoryCall::Read8(address) => Answer::Number(memory.read8(address)?),
+            MemoryCall::ReadTrb(address) => Answer::Raw(address, memory.read_trb(address)?),
+            MemoryCall::WriteTrb(address, trb) => {
+                GuestMemoryMut::new(&mut self.memory).write_trb(address, &trb)?;
+                Answer::Written(address)
+            }
+        })
+    }
+
+    /// A part of memory, or refusal 1.
+    fn part(&mut self, address: u64, length: usize) -> Result<&mut [u8], Refusal> {
+        if !self.memory().inside(address, length as u64) {
+            return Err(Refusal::Outside);
+        }
+        // Inside memory, so both fit.
+        let start = address as usize;
+        Ok(&mut self.memory[start..start + length])
+    }
+
+    fn on_trb(&mut self, call: TrbCall, source: Source) -> Result<Answer, Stop> {
+        let trb = match source {
+            Source::Given(trb) => trb,
+            Source::At(address) => self.memory().read_trb(address)?,
+        };
+        let trb_type = trb::trb_type(&trb);
+        Ok(match call {
+            TrbCall::Type => Answer::Type(trb_type),
+            TrbCall::CycleBit => Answer::CycleBit(trb::cycle_bit(&trb)),
+            TrbCall::ParseLink => {
+                LinkTrb::parse(trb).map_or(Answer::NoLink(trb_type), Answer::Link)
+            }
+            TrbCall::ParseCommand => match CommandTrbVariant::parse(trb) {
+                CommandTrbVariant::Unrecognized(buffer, refusal) => {
+                    Answer::Refused(refusal, Some(buffer))
+                }
+                command => Answer::Command(trb_type, command),
+            },
+            TrbCall::ParseTransfer => match TransferTrbVariant::parse(trb) {
+                TransferTrbVariant::Unrecognized(buffer, refusal) => {
+                    Answer::Refused(refusal, Some(buffer))
+                }
+                transfer => Answer::Transfer(trb_type, transfer),
+            },
+            TrbCall::ParseEvent => Answer::Event(EventTrb::parse(trb)?),
+            TrbCall::Data => {
+                let info = dma_info(trb)?;
+                let part = info.data(self.memory())?;
+                Answer::Part(info.data_pointer(), part.to_vec())
+            }
+            TrbCall::DataMut(byte) => {
+                let info = dma_info(trb)?;
+                let mut memory = GuestMemoryMut::new(&mut self.memory);
+                let part = info.data_mut(&mut memory)?;
+                part.fill(byte);
+                Answer::Filled(info.data_pointer(), part.len(), byte)
+            }
+        })
+    }
+
+    fn on_linked(&mut self, name: &str, call: &LinkedCall) -> Result<Answer, Stop> {
+        let memory = GuestMemory::new(&self.memory);
+        if let LinkedCall::New(place, cycle) = *call {
+            let ring = LinkedRing::new(place, cycle);
+            self.linked.insert(name.to_owned(), ring);
+            return Ok(Answer::Place(ring));
+        }
+        let ring = called(&mut self.linked, name, "linked", "new PLACE CYCLE")?;
+        match *call {
+            LinkedCall::NextTrb => return Ok(Answer::Chase(chase(ring, memory)?)),
+            LinkedCall::Advance => ring.advance(),
+            LinkedCall::SetPlace(place, cycle) => ring.set_dequeue_pointer(place, cycle),
+            LinkedCall::Show | LinkedCall::New(..) => {}
+        }
+        Ok(Answer::Place(*ring))
+    }
+
+    fn on_ring(&mut self, name: &str, call: &RingCall) -> Result<Answer, Stop> {
+        let made = match *call {
+            RingCall::New => Some(EventRing::new()),
+            RingCall::FromState(state) => Some(EventRing::from(state)),
+            _ => None,
+        };
+        if let Some(ring) = made {
+            self.rings.insert(name.to_owned(), ring);
+        }
+        let ring = called(&mut self.rings, name, "ring", "new")?;
+        Ok(match *call {
+            RingCall::New => Answer::NotConfigured,
+            RingCall::Reset => {
+                ring.reset();
+                Answer::NotConfigured
+            }
+            RingCall::Configure(table, entries) => {
+                ring.configure(GuestMemory::new(&self.memory), table, entries)?;
+                Answer::Configured(ring.state())
+            }
+            RingCall::Add(report, event) => {
+                let RingState { place, cycle, .. } = ring.state();
+                let mut memory = GuestMemoryMut::new(&mut self.memory);
+                ring.enqueue(&mut memory, &of_fields(event)?, report)?;
+                Answer::Accepted(Accepted {
+                    slot: place,
+                    cycle,
+                    next: ring.state(),
+                })
+            }
+            RingCall::State | RingCall::FromState(_) => Answer::State(ring.state()),
+        })
+    }
+
+    fn on_reader(&mut self, name: &str, call: &ReaderCall) -> Result<Answer, Stop> {
+        let memory = GuestMemory::new(&self.memory);
+        let made = match *call {
+            ReaderCall::New => Some(EventReader::new()),
+            ReaderCall::FromState(state) => Some(EventReader::from(state)),
+            _ => None,
+        };
+        if let Some(reader) = made {
+            self.readers.insert(name.to_owned(), reader);
+        }
+        let reader = called(&mut self.readers, name, "reader", "new")?;
+        Ok(match *call {
+            ReaderCall::New => Answer::NotConfigured,
+            ReaderCall::Reset => {
+                reader.reset();
+                Answer::NotConfigured
+            }
+            ReaderCall::Configure(table, entries) => {
+                reader.configure(memory, table, entries)?;
+                Answer::Configured(reader.state())
+            }
+            ReaderCall::Take => {
+                let slot = reader.state().place;
+                let taken = reader.take(memory)?;
+                taken.map_or(Answer::None(slot), |trb| Answer::Taken(slot, trb))
+            }
+            ReaderCall::State | ReaderCall::FromState(_) => Answer::State(reader.state()),
+        })
+    }
+}
+
+/// Memory of zeros, if the machine has so much.
+pub fn zeroed(length: usize) -> Result<Vec<u8>, Fault> {
+    // `vec!`, which is quick, ends the program where there is too little. So this is tried first; the compiler would leave
+    // out a reservation that nobody sees.
+    let mut tried = Vec::<u8>::new();
+    let enough = tried.try_reserve_exact(length).is_ok();
+    drop(black_box(tried));
+    match enough {
+        true => Ok(vec![0; length]),
+        false => Err(format!("this machine has no {length} bytes left")),
+    }
+}
+
+fn on_values(call: ValueCall) -> Result<Answer, Stop> {
+    Ok(match call {
+        ValueCall::CodeOf(byte) => Answer::Code(CompletionCode::try_from(byte)?),
+        ValueCall::ClassOf(byte) => Answer::Class(byte, Class::of(byte)),
+        ValueCall::EventBytes(cycle, event) => {
+            Answer::EventBytes(of_fields(event)?.to_bytes(cycle)?)
+        }
+    })
+}
+
+/// Looks for the next TRB of a linked ring.
+pub fn chase(ring: &mut LinkedRing, memory: GuestMemory<'_>) -> Result<Chase, Refusal> {
+    let linked_ring::Chase { answer, notes } = ring.next_trb(memory)?;
+    let (place, cycle) = ring.get_dequeue_pointer();
+    Ok(Chase {
+        answer,
+        notes,
+        place,
+        cycle,
+    })
+}
+
+fn called<'a, T>(
+    all: &'a mut BTreeMap<String, T>,
+    name: &str,
+    kind: &str,
+    new: &str,
+) -> Result<&'a mut T, Stop> {
+    all.get_mut(name).ok_or_else(|| {
+        Stop::Fault(format!(
+            "there is no {kind} called {name}; it is made by: {kind} {name} {new}"
+        ))
+    })
+}
+
+/// The event of these fields, or refusal 12 for a code that is not listed.
+fn of_fields(event: Event) -> Result<EventTrb, Refusal> {
+    Ok(match event {
+        Event::Transfer {
+            pointer,
+            length,
+            code,
+            flag,
+            endpoint,
+            slot,
+        } => {
+            let code = CompletionCode::try_from(code)?;
+            EventTrb::new_transfer_event_trb(pointer, length, code, flag, endpoint, slot)
+        }
+        Event::Command {
+            pointer,
+            parameter,
+            code,
+            slot,
+        } => {
+            let code = CompletionCode::try_from(code)?;
+            EventTrb::new_command_completion_event_trb(pointer, parameter, code, slot)
+        }
+        Event::Port(port) => EventTrb::new_port_status_change_event_trb(port),
+    })
+}
+
+/// Where a TRB's data is, if it is of a type that has data.
+fn dma_info(trb: RawTrbBuffer) -> Result<Box<dyn TrbDmaInfo>, Stop> {
+    match TransferTrbVariant::parse(trb) {
+        TransferTrbVariant::Normal(normal) => Ok(Box::new(normal)),
+        TransferTrbVariant::DataStage(data) => Ok(Box::new(data)),
+        TransferTrbVariant::Unrecognized(buffer, refusal) => {
+            Err(Stop::Refusal(refusal, Some(buffer)))
+        }
+        _ => Err(Stop::Fault(format!(
+            "a Normal or a Data Stage TRB points at data, and this is of type {}",
+            trbs::type_words(trb::trb_type(&trb))
+        ))),
+    }
+}

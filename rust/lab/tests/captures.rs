@@ -1,0 +1,214 @@
+//! What captures must come to: the small one of this repository, and those beside it where they are at hand.
+
+use lab::capture::{Capture, LENGTH};
+use lab::output::{Output, Stop};
+use lab::show::{show, walk, End};
+use lab::trbs::{self, Kind};
+use lab::world::Answer;
+use std::fs;
+use std::io::{self, Write};
+use std::path::{Path, PathBuf};
+
+fn repository() -> PathBuf {
+    Path::new(env!("CARGO_MANIFEST_DIR")).join("../..")
+}
+
+fn small() -> PathBuf {
+    repository().join("captures/small")
+}
+
+/// The captures beside the repository, if they are there.
+fn shared() -> Option<PathBuf> {
+    let folder = repository().join("../shared/captures/linux-6.1-qemu-xhci");
+    if folder.exists() {
+        return Some(folder);
+    }
+    // Not by `eprintln!`, which the test runner would keep to itself.
+    let _ = writeln!(
+        io::stderr(),
+        "left out: the capture of Linux, as there is no {folder:?}"
+    );
+    None
+}
+
+fn capture(folder: &Path) -> Capture {
+    match Capture::of_folder(folder, LENGTH) {
+        Ok(capture) => capture,
+        Err(stop) => panic!("{stop:?}"),
+    }
+}
+
+/// Every line of linux.txt is what the lab says of the TRB there. The number of lines.
+fn agrees_with_linux(folder: &Path) -> usize {
+    let capture = capture(folder);
+    let lines = fs::read_to_string(folder.join("linux.txt")).expect("linux.txt");
+    for line in lines.lines() {
+        let (address, words) = line.split_once(' ').expect("address and words");
+        let address = lab::lines::number("ADDRESS", address).expect("a number");
+        let trb = capture.memory().read_trb(address).expect("in memory");
+        assert_eq!(
+            trbs::line(Kind::Any, &trb).as_deref(),
+            Ok(words),
+            "{address:#x}"
+        );
+    }
+    lines.lines().count()
+}
+
+/// Each ring's end by its name.
+fn ends(capture: &Capture) -> Vec<(String, End)> {
+    let end = |ring: &lab::capture::Ring| {
+        let end = walk(capture.memory(), ring, &mut |_| Ok(())).expect("nothing is written");
+        (ring.name.clone(), end)
+    };
+    capture.rings.iter().map(end).collect()
+}
+
+#[test]
+fn the_small_capture_is_worded_as_written_by_hand() {
+    assert_eq!(agrees_with_linux(&small()), 21);
+}
+
+#[test]
+fn the_small_capture_ends_as_its_page_says() {
+    let ends = ends(&capture(&small()));
+    let told: Vec<_> = ends
+        .iter()
+        .map(|(name, end)| {
+            let answer = end.answer.as_ref().map(|answer| answer.brief());
+            (name.as_str(), answer, end.place, end.trbs)
+        })
+        .collect();
+    let expected = [
+        (
+            "commands",
+            Some(("nothing new", Some(("links", 1)))),
+            0x3000,
+            7,
+        ),
+        (
+            "control",
+            Some(("nothing new", Some(("links", 0)))),
+            0x4030,
+            3,
+        ),
+        ("circle", Some(("GAVE UP", Some(("links", 256)))), 0x7110, 1),
+        (
+            "outside",
+            Some(("refused", Some(("refusal", 1)))),
+            0x8010,
+            1,
+        ),
+        ("round", None, 0x9000, 1),
+        ("events", Some(("none", Some(("slot", 0x2050)))), 0x2050, 5),
+    ];
+    assert_eq!(told, expected);
+}
+
+#[test]
+fn what_is_shown_of_the_small_capture() {
+    let mut shown = Vec::new();
+    show(&capture(&small()), false, &mut Output::plain(&mut shown)).expect("a Vec takes all");
+    let shown = String::from_utf8(shown).expect("text");
+    for line in [
+        "  0x00003050 refused 9: command type 18 is optional and not supported; bytes 00 00 00 00 00 00 00 00 00 00 00 00 01 48 00 00 (type 18, cycle 1)",
+        "  0x00003060 refused 11: a bit is set that must be 0; bytes 08 50 00 00 00 00 00 00 00 00 00 00 01 2c 00 01 (type 11, cycle 1)",
+        "  nothing new: the next TRB, at 0x3000, is stale (1 link followed, cycle state 0); 7 TRBs; the driver's own place is the same",
+        "  GAVE UP: 256 links followed and one more stands at 0x7110, cycle state 1 (this is not \"nothing new\"); at 0x7110 stands LINK 0000000000007100 intr 0 type 'Link' flags i:c:t:C; 1 TRB; the driver's own place is 0x7010",
+        "  refused 1: a byte to be touched is outside the lent memory; at 0x8010 stands LINK 0000000008000000 intr 0 type 'Link' flags i:c:t:C; 1 TRB; the driver's own place is the same",
+        "  none: the slot at 0x2050 is stale; 5 TRBs; the driver's own place is the same",
+    ] {
+        assert!(shown.lines().any(|shown| shown == line), "{line}\nis not in\n{shown}");
+    }
+}
+
+#[test]
+fn json_has_one_object_a_line() {
+    let mut shown = Vec::new();
+    show(&capture(&small()), true, &mut Output::plain(&mut shown)).expect("a Vec takes all");
+    let shown = String::from_utf8(shown).expect("text");
+    // Eighteen TRBs and six ends.
+    assert_eq!(shown.lines().count(), 18 + 6);
+    assert_eq!(
+        shown.lines().next(),
+        Some(
+            r#"{"ring":"commands","address":"0x3000","type":9,"cycle":1,"links":0,"bytes":"00 00 00 00 00 00 00 00 00 00 00 00 01 24 00 00","words":"Enable Slot Command: flags C"}"#
+        )
+    );
+    let end = r#"{"ring":"circle","end":"GAVE UP","place":"0x7110","cycle":1,"trbs":1,"links":256,"driver":"0x7010","words":"GAVE UP: "#;
+    assert!(shown.lines().any(|line| line.starts_with(end)), "{shown}");
+}
+
+#[test]
+fn linux_and_the_lab_say_the_same_of_each_trb() {
+    let Some(folder) = shared() else { return };
+    assert_eq!(agrees_with_linux(&folder), 556);
+}
+
+#[test]
+fn the_readers_end_where_linux_stands() {
+    let Some(folder) = shared() else { return };
+    let capture = capture(&folder);
+    let ends = ends(&capture);
+    assert_eq!(ends.len(), 9);
+    for ((name, end), ring) in ends.iter().zip(&capture.rings) {
+        assert_eq!(Some(end.place), ring.driver, "{name}");
+        assert!(end.cycle, "{name}");
+        let answer = end.answer.as_ref().expect("an answer");
+        match ring.kind {
+            Kind::Event => assert_eq!((answer, end.trbs), (&Answer::None(end.place), 198)),
+            _ => assert_eq!(answer.brief().0, "nothing new", "{name}"),
+        }
+    }
+}
+
+/// What is said of the small capture with another text in place of one of its files.
+fn broken(name: &str, file: &str, text: &str) -> String {
+    let folder = std::env::temp_dir().join(format!("lomvigast-lab-{}-{name}", std::process::id()));
+    fs::create_dir_all(&folder).expect("a folder for the test");
+    for part in ["trbs.txt", "rings.txt"] {
+        fs::copy(small().join(part), folder.join(part)).expect("a copy");
+    }
+    fs::write(folder.join(file), text).expect("a file for the test");
+    let stop = Capture::of_folder(&folder, LENGTH).map(|_| ());
+    fs::remove_dir_all(&folder).expect("the folder of the test");
+    match stop {
+        Err(Stop::Misuse(fault)) => fault,
+        other => panic!("{other:?}"),
+    }
+}
+
+const BROKEN: &[(&str, &str, &str)] = &[
+    ("trbs.txt", "0x10 000", "line 1: BYTES has 3 hex digits"),
+    ("trbs.txt", "\n0x10 0000", "line 2: 16 bytes, not 2"),
+    (
+        "trbs.txt",
+        "0x08000000 00000000 00000000 00000000 00000000",
+        "beyond the 134217728 bytes",
+    ),
+    (
+        "trbs.txt",
+        "0xffffffffffffffff 00000000 00000000 00000000 00000000",
+        "beyond the 134217728 bytes",
+    ),
+    (
+        "rings.txt",
+        "bell b first 0 cycle 0 dequeue 0 enqueue 0",
+        "\"bell\"",
+    ),
+    (
+        "rings.txt",
+        "event e first 0 cycle 0 dequeue 0 enqueue 0",
+        "needs a line `table`",
+    ),
+    ("rings.txt", "command c first", "the first slot is missing"),
+    ("rings.txt", "table 0 entries 65536", "2^16"),
+];
+
+#[test]
+fn a_broken_capture_says_where() {
+    for (n, (file, text, part)) in BROKEN.iter().enumerate() {
+        let fault = broken(&n.to_string(), file, text);
+        assert!(fault.contains(file) && fault.contains(part), "{fault}");
+    }
+}

@@ -1,0 +1,290 @@
+//! Random scripts, bytes and captures: each gives an answer or a fault, and never a panic.
+
+use lab::capture::{Capture, Ring, Start};
+use lab::output::{Output, Stop};
+use lab::picture::picture;
+use lab::run::{each, run};
+use lab::script::FORMS;
+use lab::show::show;
+use lab::trbs::Kind;
+use lab::world::Answer;
+use std::collections::BTreeSet;
+
+/// Marsaglia's xorshift with 64 bits: the same numbers at every run.
+struct Random(u64);
+
+impl Random {
+    fn next(&mut self) -> u64 {
+        self.0 ^= self.0 << 13;
+        self.0 ^= self.0 >> 7;
+        self.0 ^= self.0 << 17;
+        self.0
+    }
+
+    fn below(&mut self, limit: u64) -> u64 {
+        self.next() % limit
+    }
+
+    fn one_in(&mut self, n: u64) -> bool {
+        self.below(n) == 0
+    }
+
+    fn pick<T: Copy>(&mut self, list: &[T]) -> T {
+        list[self.below(list.len() as u64) as usize]
+    }
+
+    fn bytes(&mut self, length: u64) -> Vec<u8> {
+        (0..length).map(|_| self.next() as u8).collect()
+    }
+}
+
+const NUMBERS: &[&str] = &[
+    "0",
+    "1",
+    "2",
+    "13",
+    "16",
+    "30",
+    "0x20",
+    "0x40",
+    "0x80",
+    "0x100",
+    "0x110",
+    "0x140",
+    "0x3f0",
+    "255",
+    "0xfffffff0",
+    "0x1000000",
+    "18446744073709551615",
+    "0xfffffffffffffff0",
+];
+const UNREADABLE: &[&str] = &[
+    "",
+    "x",
+    "-1",
+    "0x",
+    "18446744073709551616",
+    "0xg",
+    "é",
+    "\u{0}",
+    "=",
+    "port=",
+];
+
+fn hex(bytes: &[u8]) -> String {
+    bytes.iter().map(|byte| format!("{byte:02x}")).collect()
+}
+
+/// A TRB of any type, often a Link, with a pointer that is often inside memory.
+fn trb(random: &mut Random) -> [u8; 16] {
+    let mut trb = [0; 16];
+    trb[0] = random.pick(&[0, 0, 0x10, 0x40, 0x80, 0x08, 0x47]);
+    trb[1] = random.pick(&[0, 0, 1, 3, 4]);
+    trb[8] = random.pick(&[0, 1, 64]);
+    trb[11] = random.pick(&[0, 1, 13, 30, 200]);
+    trb[12] = random.next() as u8;
+    let any = random.below(64) as u8;
+    trb[13] = random.pick(&[6, 6, 1, 3, 11, 16, 18, 32, 33, 34, any]) << 2;
+    trb[15] = random.pick(&[0, 1]);
+    if random.one_in(8) {
+        trb = random.bytes(16).try_into().expect("sixteen");
+    }
+    trb
+}
+
+fn event(random: &mut Random) -> String {
+    let number = |random: &mut Random| random.pick(NUMBERS);
+    match random.below(4) {
+        0 => format!("port={}", random.below(256)),
+        1 => format!(
+            "command pointer={} parameter={}",
+            number(random),
+            random.below(1 << 25)
+        ),
+        2 => format!(
+            "transfer length={} code={}",
+            random.below(1 << 25),
+            random.below(256)
+        ),
+        _ => format!("transfer pointer={} slot=3 flag=1 code=1", number(random)),
+    }
+}
+
+/// A command in one of the known forms.
+fn line(random: &mut Random) -> String {
+    let (form, _) = random.pick(FORMS);
+    let mut words = Vec::new();
+    for word in form.split(' ') {
+        let number = random.pick(NUMBERS).to_owned();
+        words.push(match word {
+            _ if random.one_in(2000) => random.pick(UNREADABLE).to_owned(),
+            "LENGTH" => random
+                .pick(&["0", "1", "16", "0x400", "0x400", "1000"])
+                .to_owned(),
+            "HEX" if form.starts_with("write_trb") => hex(&trb(random)),
+            "HEX" => {
+                let length = 1 + random.below(20);
+                hex(&random.bytes(length))
+            }
+            "BYTE" => random.below(256).to_string(),
+            "TRB" if random.one_in(2) => format!("at {number}"),
+            "TRB" => hex(&trb(random)),
+            "CYCLE" => random.below(2).to_string(),
+            "EVENT" => event(random),
+            "NAME" => random.pick(&["a", "b"]).to_owned(),
+            "TABLE" => random
+                .pick(&["0", "0", "0", "0x40", "0x20", "0x400"])
+                .to_owned(),
+            "ENTRIES" => random.pick(&["1", "2", "2", "3", "0", "17"]).to_owned(),
+            "FIELDS" => format!(
+                "ready=1 place={number} entries=2 remaining={} cycle=1",
+                random.below(4)
+            ),
+            word if word.chars().all(char::is_uppercase) => number,
+            word => word.to_owned(),
+        });
+    }
+    words.join(" ")
+}
+
+/// Memory with a table of two segments, and all names made; then random commands.
+fn script(random: &mut Random, lines: u64) -> String {
+    let mut script =
+        "memory 0x400\npoke 0 0001000000000000 02000000 00000000 4001000000000000 03000000\n"
+            .to_owned();
+    for name in ["a", "b"] {
+        script += &format!("linked {name} new 0x40 1\nring {name} new\nreader {name} new\n");
+        script += &format!("ring {name} configure 0 2\nreader {name} configure 0 2\n");
+    }
+    for _ in 0..lines {
+        script += &line(random);
+        script.push('\n');
+    }
+    script
+}
+
+/// A run that ended by itself or by a fault of the script.
+fn fine(ended: Result<(), Stop>) {
+    if let Err(Stop::Output(error)) = ended {
+        panic!("{error}");
+    }
+}
+
+#[test]
+fn random_scripts_reach_every_refusal_and_never_a_panic() {
+    let mut random = Random(0x9e37_79b9_7f4a_7c15);
+    let (mut refusals, mut words) = (BTreeSet::new(), BTreeSet::new());
+    let mut commands = 0;
+    for _ in 0..2500 {
+        let script = script(&mut random, 60);
+        fine(each(&mut script.as_bytes(), &mut |step| {
+            if let Answer::Refused(refusal, _) = step.answer {
+                refusals.insert(refusal.number());
+            }
+            words.insert(step.answer.brief().0);
+            commands += 1;
+            assert!(!step.answer.to_string().contains('\n'), "{}", step.line);
+            Ok(())
+        }));
+    }
+    assert!(refusals.into_iter().eq(1..=13));
+    for word in [
+        "TRB",
+        "nothing new",
+        "GAVE UP",
+        "accepted",
+        "taken",
+        "none",
+        "configured",
+    ] {
+        assert!(words.contains(word), "no script came to {word:?}");
+    }
+    assert!(
+        commands > 50_000,
+        "{commands} commands: the scripts stop too early"
+    );
+}
+
+#[test]
+fn random_scripts_as_json_and_as_pictures() {
+    let mut random = Random(2);
+    for _ in 0..150 {
+        let script = script(&mut random, 40);
+        let mut out = Vec::new();
+        fine(run(
+            &mut script.as_bytes(),
+            true,
+            &mut Output::plain(&mut out),
+        ));
+        fine(picture(
+            &mut script.as_bytes(),
+            false,
+            &mut Output::plain(&mut out),
+        ));
+        fine(picture(
+            &mut script.as_bytes(),
+            true,
+            &mut Output::plain(&mut out),
+        ));
+    }
+}
+
+#[test]
+fn random_bytes_as_scripts() {
+    let mut random = Random(3);
+    for _ in 0..20_000 {
+        let length = random.below(200);
+        let bytes = random.bytes(length);
+        fine(run(
+            &mut &bytes[..],
+            false,
+            &mut Output::plain(&mut Vec::new()),
+        ));
+    }
+}
+
+#[test]
+fn good_scripts_with_bytes_changed() {
+    let mut random = Random(4);
+    for _ in 0..2000 {
+        let mut bytes = script(&mut random, 10).into_bytes();
+        for _ in 0..3 {
+            let at = random.below(bytes.len() as u64) as usize;
+            bytes[at] = random.pick(b"0123456789abcdefx =#\n\r\t.,-_GZ\xff\x00");
+        }
+        fine(run(
+            &mut &bytes[..],
+            false,
+            &mut Output::plain(&mut Vec::new()),
+        ));
+    }
+}
+
+#[test]
+fn random_memory_as_captures() {
+    let mut random = Random(5);
+    for _ in 0..2000 {
+        let mut memory = Vec::new();
+        for _ in 0..random.below(80) {
+            memory.extend(trb(&mut random));
+        }
+        memory.truncate(memory.len() - memory.len().min(random.below(20) as usize));
+        let starts = [
+            Start::Linked(random.below(1 << 11), random.one_in(2)),
+            Start::Linked(random.next(), true),
+            Start::Table(64 * random.below(16), random.below(4) as u16),
+            Start::Table(random.next(), random.next() as u16),
+        ];
+        let kinds = [Kind::Command, Kind::Transfer, Kind::Event, Kind::Any];
+        let ring = |start| Ring {
+            kind: random.pick(&kinds),
+            name: "\"\n".to_owned(),
+            start,
+            driver: Some(0),
+        };
+        let capture = Capture::new(memory, starts.map(ring).into());
+        let mut out = Vec::new();
+        fine(show(&capture, false, &mut Output::plain(&mut out)));
+        fine(show(&capture, true, &mut Output::plain(&mut out)));
+    }
+}
