@@ -215,7 +215,7 @@ impl World {
         let memory = GuestMemory::new(&self.memory);
         if let LinkedCall::New(place, cycle) = *call {
             let ring = LinkedRing::new(place, cycle);
-            self.linked.insert(name.to_owned(), ring);
+            self.linked.insert(name.to_owned(), ring.clone());
             return Ok(Answer::Place(ring));
         }
         let ring = called(&mut self.linked, name, "linked", "new PLACE CYCLE")?;
@@ -225,7 +225,7 @@ impl World {
             LinkedCall::SetPlace(place, cycle) => ring.set_dequeue_pointer(place, cycle),
             LinkedCall::Show | LinkedCall::New(..) => {}
         }
-        Ok(Answer::Place(*ring))
+        Ok(Answer::Place(ring.clone()))
     }
 
     fn on_ring(&mut self, name: &str, call: &RingCall) -> Result<Answer, Stop> {

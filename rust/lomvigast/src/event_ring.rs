@@ -93,7 +93,8 @@ impl CEventRing {
 /// assert_eq!(reader.take(memory.shared()), Ok(None));
 /// # Ok::<(), Refusal>(())
 /// ```
-#[derive(Debug, Clone, Copy, PartialEq, Eq)]
+// Not `Copy`: a copy that moves on in its place would leave it behind.
+#[derive(Debug, Clone, PartialEq, Eq)]
 pub struct EventRing {
     state: CEventRing,
 }
@@ -130,7 +131,8 @@ impl EventRing {
 
     /// Writes an event to the present slot and moves on, unless that would fill the last free slot.
     ///
-    /// `dequeue_pointer` is the place up to which the driver has reported events as taken. Refused with 8 (the event), 4
+    /// `dequeue_pointer` is the place up to which the driver has reported events as taken, ERDP with its low four bits
+    /// cleared. Where the ring is full the event is the caller's to keep. Refused with 8 (the event), 4
     /// (this ring), 6 (`dequeue_pointer`), 1 (the slot, or the next table entry where one slot remains), 5 (that entry) or 7
     /// (full), in this order; no byte of memory has then changed, and the ring is as it was.
     pub fn enqueue(
@@ -166,7 +168,8 @@ impl From<RingState> for EventRing {
 }
 
 /// The consumer's end of an event ring: what a driver does (xHCI 4.9.4). See the example at [`EventRing`].
-#[derive(Debug, Clone, Copy, PartialEq, Eq)]
+// Not `Copy`: a copy that moves on in its place would leave it behind.
+#[derive(Debug, Clone, PartialEq, Eq)]
 pub struct EventReader {
     state: CEventRing,
 }
@@ -198,7 +201,8 @@ impl EventReader {
         Refusal::check(moved.refusal, 0)
     }
 
-    /// The next event's bytes, or `None` if the slot is stale, which is to say that every event was taken.
+    /// The next event's bytes, or `None` if the slot is stale: on a ring that began with zeroed segments and that nobody else
+    /// writes to, every event was then taken.
     ///
     /// Refused with 4 (this reader), 1 (the slot, or the next table entry after a segment's last event) or 5 (that entry), in
     /// this order; the reader is then as it was.

@@ -1,10 +1,11 @@
 //! The ring core of an xHCI device emulation, proved, under usbvfiod's names.
 //!
-//! Every function here is a thin cover over one function of an archive in which each function is proved to meet its
-//! contract (crates/lomvigast_ffi). No input is outside a contract: a call answers, or refuses with a [`Refusal`] that has a
-//! number and a sentence, and a refusal changes no byte of guest memory and no ring.
+//! What is decided here is decided by an archive in which each function is proved to meet its contract (crates/lomvigast_ffi);
+//! this crate gives its answers Rust's types. No input is outside a contract: a call answers, or refuses with a [`Refusal`]
+//! that has a number and a sentence, and a refusal changes no byte of guest memory and no ring.
 //!
-//! What the guest shares is lent for one call as [`GuestMemory`] or [`GuestMemoryMut`].
+//! What the guest shares is lent for one call as [`GuestMemory`] or [`GuestMemoryMut`], and nobody may write to it during the
+//! call: a guest that runs on is lent as a copy (docs/USBVFIOD.md).
 //!
 //! ```
 //! use lomvigast::linked_ring::{Answer, LinkedRing};

@@ -16,16 +16,22 @@ use crate::{ffi, GuestMemory, Refusal};
 /// let memory = GuestMemory::new(&bytes);
 ///
 /// let mut ring = LinkedRing::new(0, true);
-/// let Answer::Trb(trb) = ring.next_trb(memory)?.answer else {
-///     panic!("a fresh TRB")
-/// };
-/// assert_eq!(trb.address, 0);
-/// ring.advance();
-/// assert_eq!(ring.next_trb(memory)?.answer, Answer::NothingNew);
+/// let mut commands = 0;
+/// loop {
+///     match ring.next_trb(memory)?.answer {
+///         Answer::Trb(_) => commands += 1,
+///         Answer::NothingNew => break,
+///         // Stop the ring, and say so: whether work waits is not known, and asking again follows 256 links more.
+///         Answer::TooManyLinks => panic!("gave up"),
+///     }
+///     ring.advance();
+/// }
+/// assert_eq!(commands, 1);
 /// assert_eq!(ring.get_dequeue_pointer(), (16, true));
 /// # Ok::<(), lomvigast::Refusal>(())
 /// ```
-#[derive(Debug, Clone, Copy, PartialEq, Eq)]
+// Not `Copy`: a copy that moves on in a ring's place would leave the ring behind.
+#[derive(Debug, Clone, PartialEq, Eq)]
 pub struct LinkedRing {
     dequeue_pointer: u64,
     cycle_state: bool,
@@ -56,6 +62,7 @@ pub struct Notes {
 
 /// An answer, and the notes beside it.
 #[derive(Debug, Clone, Copy, PartialEq, Eq)]
+#[must_use]
 pub struct Chase {
     /// What the chase came to.
     pub answer: Answer,

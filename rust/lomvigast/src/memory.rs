@@ -1,6 +1,7 @@
 use crate::ffi;
 use crate::trb::RawTrbBuffer;
 use crate::Refusal;
+use std::fmt;
 
 /// Guest memory lent to be read. Guest address 0 is byte 0.
 ///
@@ -11,7 +12,7 @@ use crate::Refusal;
 /// assert_eq!(memory.read2(3), Err(Refusal::Outside));
 /// assert_eq!(memory.read2(u64::MAX), Err(Refusal::Outside));
 /// ```
-#[derive(Debug, Clone, Copy)]
+#[derive(Clone, Copy)]
 pub struct GuestMemory<'a> {
     pub(crate) bytes: &'a [u8],
 }
@@ -71,7 +72,6 @@ fn number(answer: ffi::CNumber) -> Result<u64, Refusal> {
 /// assert_eq!(memory.shared().read8(8), Ok(0x0707_0707_0707_0707));
 /// # Ok::<(), lomvigast::Refusal>(())
 /// ```
-#[derive(Debug)]
 pub struct GuestMemoryMut<'a> {
     pub(crate) bytes: &'a mut [u8],
 }
@@ -93,5 +93,22 @@ impl<'a> GuestMemoryMut<'a> {
     #[inline]
     pub fn write_trb(&mut self, address: u64, trb: &RawTrbBuffer) -> Result<(), Refusal> {
         Refusal::check(ffi::write_trb(self.bytes, address, trb), 0)
+    }
+}
+
+/// How much there is, and not all that the guest keeps in it.
+fn show(name: &str, bytes: &[u8], f: &mut fmt::Formatter<'_>) -> fmt::Result {
+    f.debug_struct(name).field("length", &bytes.len()).finish()
+}
+
+impl fmt::Debug for GuestMemory<'_> {
+    fn fmt(&self, f: &mut fmt::Formatter<'_>) -> fmt::Result {
+        show("GuestMemory", self.bytes, f)
+    }
+}
+
+impl fmt::Debug for GuestMemoryMut<'_> {
+    fn fmt(&self, f: &mut fmt::Formatter<'_>) -> fmt::Result {
+        show("GuestMemoryMut", self.bytes, f)
     }
 }

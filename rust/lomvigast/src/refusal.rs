@@ -10,7 +10,7 @@ use std::fmt;
 /// assert_eq!(Refusal::Full.number(), 7);
 /// assert_eq!(
 ///     Refusal::Full.to_string(),
-///     "the ring is full: all slots but one hold events that were not reported as taken (refusal 7)"
+///     "the ring is full: the slot after the present one is the reported place (refusal 7)"
 /// );
 /// ```
 #[derive(Debug, Clone, Copy, PartialEq, Eq, Hash)]
@@ -27,7 +27,7 @@ pub enum Refusal {
     Segment,
     /// 6: the reported place is not a multiple of 16.
     Report,
-    /// 7: the ring is full.
+    /// 7: the ring is full: the slot after the present one is the reported place. The event is the caller's to keep.
     Full,
     /// 8: an event that cannot be written: a command pointer with low bits set, a parameter or length of 2^24 or more.
     Event,
@@ -108,7 +108,7 @@ impl fmt::Display for Refusal {
             Self::Report => write!(f, "the reported place is not a multiple of 16"),
             Self::Full => write!(
                 f,
-                "the ring is full: all slots but one hold events that were not reported as taken"
+                "the ring is full: the slot after the present one is the reported place"
             ),
             Self::Event => write!(f, "a field of the event does not fit or is not aligned"),
             Self::Optional(t) => write!(f, "command type {t} is optional and not supported"),

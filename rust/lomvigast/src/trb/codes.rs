@@ -84,7 +84,8 @@ impl Class {
             0 => Self::Listed,
             1 => Self::Reserved,
             2 => Self::VendorError,
-            _ => Self::VendorInfo,
+            3 => Self::VendorInfo,
+            class => unreachable!("the contracts know no class {class}"),
         }
     }
 }

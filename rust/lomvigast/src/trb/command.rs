@@ -176,7 +176,8 @@ impl CommandTrbVariant {
             }
             types::RESET_DEVICE_COMMAND => Self::ResetDevice(ResetDeviceCommandTrbData { slot_id }),
             types::FORCE_HEADER_COMMAND => Self::ForceHeader,
-            _ => Self::NoOp,
+            types::NO_OP_COMMAND => Self::NoOp,
+            kind => unreachable!("the contracts know no command {kind}"),
         }
     }
 }

@@ -182,7 +182,8 @@ impl EventTrb {
             types::COMMAND_COMPLETION_EVENT => {
                 Self::new_command_completion_event_trb(e.pointer, e.length, code, e.slot)
             }
-            _ => Self::new_port_status_change_event_trb(e.port),
+            types::PORT_STATUS_CHANGE_EVENT => Self::new_port_status_change_event_trb(e.port),
+            kind => unreachable!("the contracts know no event {kind}"),
         }
     }
 }

@@ -22,6 +22,8 @@ pub use transfer::{
 };
 
 use crate::{ffi, Refusal};
+use std::error::Error;
+use std::fmt;
 
 /// The sixteen bytes of a TRB.
 pub type RawTrbBuffer = [u8; 16];
@@ -42,6 +44,20 @@ pub struct Unrecognized {
     pub buffer: RawTrbBuffer,
     /// Why they were refused.
     pub refusal: Refusal,
+}
+
+impl fmt::Display for Unrecognized {
+    fn fmt(&self, f: &mut fmt::Formatter<'_>) -> fmt::Result {
+        self.refusal.fmt(f)
+    }
+}
+
+impl Error for Unrecognized {}
+
+impl From<Unrecognized> for Refusal {
+    fn from(unrecognized: Unrecognized) -> Self {
+        unrecognized.refusal
+    }
 }
 
 /// The type number, byte 13 shifted right by 2 (xHCI table 6-91).
@@ -68,6 +84,7 @@ mod types {
     pub const STATUS_STAGE: u8 = 4;
     pub const ISOCH: u8 = 5;
     pub const EVENT_DATA: u8 = 7;
+    pub const NO_OP: u8 = 8;
     pub const ENABLE_SLOT_COMMAND: u8 = 9;
     pub const DISABLE_SLOT_COMMAND: u8 = 10;
     pub const ADDRESS_DEVICE_COMMAND: u8 = 11;
@@ -78,6 +95,7 @@ mod types {
     pub const SET_TR_DEQUEUE_POINTER_COMMAND: u8 = 16;
     pub const RESET_DEVICE_COMMAND: u8 = 17;
     pub const FORCE_HEADER_COMMAND: u8 = 22;
+    pub const NO_OP_COMMAND: u8 = 23;
     pub const TRANSFER_EVENT: u8 = 32;
     pub const COMMAND_COMPLETION_EVENT: u8 = 33;
     pub const PORT_STATUS_CHANGE_EVENT: u8 = 34;

@@ -173,10 +173,11 @@ impl TransferTrbVariant {
                 chain,
                 interrupt_on_completion,
             }),
-            _ => Self::NoOp(NoOpTrb {
+            types::NO_OP => Self::NoOp(NoOpTrb {
                 chain,
                 interrupt_on_completion,
             }),
+            kind => unreachable!("the contracts know no transfer TRB {kind}"),
         }
     }
 }

@@ -91,7 +91,7 @@ impl Pair {
     /// Every byte of memory, and that the original stayed inside it.
     fn hold_memory(&self, tally: &mut Tally) {
         let same = (self.bus.holds(&self.bytes), self.bus.outside());
-        tally.hold(&(&self.table, self.port), (true, 0), same);
+        tally.hold(&(&self.table, &self.port), (true, 0), same);
     }
 
     fn reset(&mut self, tally: &mut Tally) {
@@ -137,7 +137,8 @@ fn walk(pair: &mut Pair, tally: &mut Tally, slots: &[u64], reported: usize, left
     if left == 0 {
         return;
     }
-    let (bytes, state, port) = (pair.bytes.clone(), pair.original.state(), pair.port);
+    let (bytes, state) = (pair.bytes.clone(), pair.original.state());
+    let port = pair.port.clone();
     let event = EventTrb::new_port_status_change_event_trb(left as u8);
     pair.add(tally, &event, slots[reported]);
     pair.hold_memory(tally);
