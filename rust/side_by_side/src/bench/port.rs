@@ -71,7 +71,7 @@ fn take(rounds: u64) {
         .configure(memory, inputs::TABLE, 4)
         .expect("a good table");
     for _ in 0..rounds {
-        let mut reader = start;
+        let mut reader = start.clone();
         for _ in 0..ROUND {
             answer(black_box(&mut reader).take(*black_box(&memory)));
         }
