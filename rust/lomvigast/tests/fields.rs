@@ -196,7 +196,7 @@ fn links() {
 
 #[test]
 fn notes() -> Result<(), Refusal> {
-    let notes = |low, flags| {
+    let notes = |low, flags| -> Result<Notes, Refusal> {
         let mut bytes = [0; 32];
         bytes[..16].copy_from_slice(&trb(
             6,
