@@ -1,5 +1,5 @@
--- Events, given and answered flat. `kind` is the TRB's type; a number that is none of the 36 codes' is refused with 12, a type that is no event's
--- with 10.
+-- Events, given and answered flat. `kind` is the TRB's type; a type that is no event's is refused with 10, a code that an event of the type
+-- cannot hold with 12.
 use Prim.Native.Nat.{ℕ}
 use mathlib.Core.Bool.{Bool, false}
 use lib.Dec.{eqb}
@@ -48,8 +48,14 @@ commandCompletionFrom e k =
       «slot_id» = e .slot;
     })
 
+-- the code of every Port Status Change event
+abbrev pub success : ℕ
+success = 1
+
 abbrev pub portStatusChangeFrom : CEvent → EventVariant
-portStatusChangeFrom e = EventVariant.Event (EventTrb.PortStatusChange (record { «port_id» = e .port }))
+portStatusChangeFrom e =
+    when (eqb (e .code) success) (EventVariant.Event (EventTrb.PortStatusChange (record { «port_id» = e .port }))) or
+    refusedWith refusal.code 0
 
 unfoldable pub eventFrom : CEvent → EventVariant
 eventFrom e =
@@ -68,10 +74,10 @@ bytesFrom (EventVariant.Unrecognized x) c = refused (x .number)
 
 -- ---- answered: what an event does not have is 0
 
--- a type, and a port
-abbrev pub plain : ℕ → ℕ → CEvent
-plain kind port =
-    record { pointer = 0; length = 0; kind = kind; code = 0; «event_data» = false; endpoint = 0; slot = 0; port = port }
+-- a type, a code and a port
+abbrev pub plain : ℕ → ℕ → ℕ → CEvent
+plain kind code port =
+    record { pointer = 0; length = 0; kind = kind; code = code; «event_data» = false; endpoint = 0; slot = 0; port = port }
 
 abbrev pub flatEvent : EventTrb → CEvent
 flatEvent (EventTrb.Transfer t) =
@@ -96,12 +102,12 @@ flatEvent (EventTrb.CommandCompletion t) =
       slot = t .«slot_id»;
       port = 0;
     }
-flatEvent (EventTrb.PortStatusChange t) = plain types.portStatusChangeEvent (t .«port_id»)
+flatEvent (EventTrb.PortStatusChange t) = plain types.portStatusChangeEvent success (t .«port_id»)
 
 -- beside a refusal, the type that document 01 shows there
 abbrev pub flatVariant : EventVariant → CEvent
 flatVariant (EventVariant.Event e) = flatEvent e
-flatVariant (EventVariant.Unrecognized x) = plain (x .«trb_type») 0
+flatVariant (EventVariant.Unrecognized x) = plain (x .«trb_type») 0 0
 
 abbrev pub flatParsed : ParsedEvent → CParsedEvent
 flatParsed p = record { refusal = numberOfVariant (p .variant); event = flatVariant (p .variant); raw = p .raw }

@@ -1,7 +1,6 @@
 -- What the link-following reader answers, flat.
 use Prim.Native.Nat.{ℕ}
-use lib.ListN.{getD}
-use Rattle.linked_ring.specs.Chase.{numberOf, valuesOf}
+use Rattle.linked_ring.specs.Chase.{numberOf}
 use Rattle.linked_ring.specs.declared.LinkedRing.{LinkedRing}
 use Rattle.linked_ring.specs.declared.Answer.{Answer}
 use Rattle.linked_ring.specs.declared.Chase.{Chase}
@@ -11,9 +10,12 @@ use Rattle.lomvigast_ffi.specs.declared.linked.CChase.{CChase}
 abbrev pub flatRing : LinkedRing → CLinkedRing
 flatRing r = record { place = r .place; cycle = r .cycle }
 
--- document 01's value of an answer; 3 for a refusal, which has none
+-- the answers by number, none of which stands for two
 abbrev pub kindOf : Answer → ℕ
-kindOf a = getD (valuesOf a) 0 3
+kindOf Answer.NothingNew = 0
+kindOf Answer.Trb = 1
+kindOf Answer.TooManyLinks = 2
+kindOf (Answer.Refused n) = 3
 
 abbrev pub flatChase : Chase → CChase
 flatChase c =

@@ -1,13 +1,13 @@
 -- Numbers read from guest memory, flat.
 use Prim.Native.Nat.{ℕ}
-use lib.ListN.{getD}
-use Rattle.guest.specs.Answers.{numberOf, valuesOf}
+use Rattle.guest.specs.Answers.{numberOf}
 use Rattle.guest.specs.declared.Number.{Number}
 use Rattle.lomvigast_ffi.specs.declared.memory.CNumber.{CNumber}
 
--- document 01's value; 0 beside a refusal, which has none
+-- the number; 0 beside a refusal
 abbrev pub valueOf : Number → ℕ
-valueOf n = getD (valuesOf n) 0 0
+valueOf (Number.Value v) = v
+valueOf (Number.Refused n) = 0
 
 abbrev pub flatNumber : Number → CNumber
 flatNumber n = record { value = valueOf n; refusal = numberOf n }

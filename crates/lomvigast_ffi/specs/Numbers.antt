@@ -1,13 +1,13 @@
 -- Completion codes by their numbers.
 use Prim.Native.Nat.{ℕ}
-use lib.ListN.{getD}
-use Rattle.codes.specs.Codes.{numberOfCoded, valuesOfCoded}
+use Rattle.codes.specs.Codes.{numberOf, numberOfCoded}
 use Rattle.codes.specs.declared.Coded.{Coded}
 use Rattle.lomvigast_ffi.specs.declared.numbers.CCoded.{CCoded}
 
--- document 01's value; 0 beside a refusal, which has none
+-- the code's number; 0 beside a refusal
 abbrev pub valueOf : Coded → ℕ
-valueOf k = getD (valuesOfCoded k) 0 0
+valueOf (Coded.Listed k) = numberOf k
+valueOf Coded.Unlisted = 0
 
 abbrev pub flatCoded : Coded → CCoded
 flatCoded k = record { refusal = numberOfCoded k; code = valueOf k }

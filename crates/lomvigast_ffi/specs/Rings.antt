@@ -1,10 +1,9 @@
 -- What the event ring and its reader answer, flat.
 use Prim.Native.Nat.{ℕ}
 use mathlib.Core.Bool.{Bool}
-use lib.ListN.{getD}
 use Rattle.guest.specs.Memory.{Memory}
 use Rattle.trb.specs.declared.event.EventVariant.{EventVariant}
-use Rattle.event_ring.specs.Ring.{refusedAt, added, addedMemory, numberOf, valuesOf}
+use Rattle.event_ring.specs.Ring.{refusedAt, added, addedMemory, numberOf}
 use Rattle.event_ring.specs.declared.EventRing.{EventRing}
 use Rattle.event_ring.specs.declared.Moved.{Moved}
 use Rattle.event_ring.specs.declared.ReaderMoved.{ReaderMoved}
@@ -37,9 +36,11 @@ flatMoved m = record { refusal = m .refusal; ring = flatState (m .ring) }
 abbrev pub flatReader : ReaderMoved → CMoved
 flatReader m = record { refusal = m .refusal; ring = flatState (m .reader .state) }
 
--- document 01's value of an answer; 3 for a refusal, which has none
+-- the answers by number, as those of a chase
 abbrev pub kindOf : Take → ℕ
-kindOf a = getD (valuesOf a) 0 3
+kindOf Take.Nothing = 0
+kindOf Take.Event = 1
+kindOf (Take.Refused n) = 3
 
 abbrev pub flatTaken : Taken → CTaken
 flatTaken t =

@@ -17,6 +17,9 @@ ghost use Rattle.trb.specs.Events.{eventOf, numberOfVariant};
 ghost use Rattle.trb.specs.declared.event.EventTrb.{EventTrb};
 ghost use Rattle.lomvigast_ffi.specs.Events.{refusedWith, coded, transferFrom, commandCompletionFrom, portStatusChangeFrom, eventFrom, flatBytes, bytesFrom, plain, flatEvent, flatVariant, flatParsed};
 
+// The code of every Port Status Change event.
+const SUCCESS: u8 = 1;
+
 #[repr(C)]
 pub struct CEvent {
     pub pointer: u64,
@@ -86,6 +89,9 @@ fn command_completion(e: CEvent) -> EventVariant
 fn port_status_change(e: CEvent) -> EventVariant
     ensures { λ r. ⌜ r ≡ portStatusChangeFrom e ⌝ }
 {
+    if e.code != SUCCESS {
+        return refuse(refusal::CODE, 0);
+    }
     EventVariant::Event(EventTrb::PortStatusChange(PortStatusChangeEventTrbData {
         port_id: e.port,
     }))
@@ -147,14 +153,14 @@ pub extern "C" fn lomvigast_event_bytes(event: CEvent, cycle: bool) -> CTrb
 
 // ---- answered flat
 
-fn plain(kind: u8, port: u8) -> CEvent
-    ensures { λ r. ⌜ r ≡ plain kind port ⌝ }
+fn plain(kind: u8, code: u8, port: u8) -> CEvent
+    ensures { λ r. ⌜ r ≡ plain kind code port ⌝ }
 {
     CEvent {
         pointer: 0,
         length: 0,
         kind,
-        code: 0,
+        code,
         event_data: false,
         endpoint: 0,
         slot: 0,
@@ -200,7 +206,11 @@ fn flat_event(event: EventTrb) -> CEvent
     match event {
         EventTrb::Transfer(t) => flat_transfer(t),
         EventTrb::CommandCompletion(t) => flat_command_completion(t),
-        EventTrb::PortStatusChange(t) => plain(trb_types::PORT_STATUS_CHANGE_EVENT, t.port_id),
+        EventTrb::PortStatusChange(t) => plain(
+            trb_types::PORT_STATUS_CHANGE_EVENT,
+            SUCCESS,
+            t.port_id,
+        ),
     }
 }
 
@@ -218,7 +228,7 @@ fn flat_variant(variant: EventVariant) -> CEvent
 {
     match variant {
         EventVariant::Event(e) => flat_event(e),
-        EventVariant::Unrecognized(e) => plain(e.trb_type, 0),
+        EventVariant::Unrecognized(e) => plain(e.trb_type, 0, 0),
     }
 }
 
