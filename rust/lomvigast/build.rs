@@ -22,41 +22,42 @@ fn proved() -> PathBuf {
     let here = env::var_os("CARGO_MANIFEST_DIR").expect("cargo sets CARGO_MANIFEST_DIR");
     let root = Path::new(&here).join("../..");
     let sources = root.join("crates");
+    let listed = root.join("crates.txt");
     println!("cargo:rerun-if-changed={}", sources.display());
+    println!("cargo:rerun-if-changed={}", listed.display());
     let folder = root.join("target/staticlib");
     let archive = folder.join(format!("lib{NAME}.a"));
     let built = fs::metadata(&archive).and_then(|data| data.modified());
     let changed = newest(&sources).expect("crates/ can be read");
+    let changed = changed.max(newest(&listed).expect("crates.txt is there"));
     if !built.is_ok_and(|built| built > changed) {
         prove(&root);
     }
     folder
 }
 
-/// When anything in a folder, or in those below it, last changed.
-fn newest(folder: &Path) -> io::Result<SystemTime> {
-    let mut time = fs::metadata(folder)?.modified()?;
-    for entry in fs::read_dir(folder)? {
-        let entry = entry?;
-        let data = entry.metadata()?;
-        let changed = if data.is_dir() {
-            newest(&entry.path())?
-        } else {
-            data.modified()?
-        };
-        time = time.max(changed);
+/// When a file, or anything in a folder and those below it, last changed.
+fn newest(path: &Path) -> io::Result<SystemTime> {
+    let data = fs::metadata(path)?;
+    let mut time = data.modified()?;
+    if data.is_dir() {
+        for entry in fs::read_dir(path)? {
+            time = time.max(newest(&entry?.path())?);
+        }
     }
     Ok(time)
 }
 
+/// `rt check` first, which proves crates that do not depend on each other at the same time.
 fn prove(root: &Path) {
-    let done = Command::new("rt")
-        .args(["staticlib", NAME])
-        .current_dir(root)
-        .status();
-    match done {
+    rt(root, &["check", "linked_ring", "event_ring"]);
+    rt(root, &["staticlib", NAME]);
+}
+
+fn rt(root: &Path, words: &[&str]) {
+    match Command::new("rt").args(words).current_dir(root).status() {
         Ok(status) if status.success() => {}
-        Ok(status) => panic!("`rt staticlib {NAME}` ended with {status}"),
+        Ok(status) => panic!("`rt {}` ended with {status}", words.join(" ")),
         Err(error) => panic!("`rt`, the command of the Rattle kit, cannot be run: {error}"),
     }
 }

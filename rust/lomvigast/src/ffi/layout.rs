@@ -302,7 +302,7 @@ fn an_event_crosses_both_ways() {
         pointer: 0,
         length: 0,
         kind: 34,
-        code: 0,
+        code: 1,
         event_data: false,
         endpoint: 0,
         slot: 0,
@@ -325,6 +325,10 @@ fn an_event_crosses_both_ways() {
             trb: [0; 16]
         }
     );
+    let codes = [CEvent { code: 0, ..port }, CEvent { code: 30, ..EVENT }];
+    for event in codes {
+        assert_eq!(event_bytes(event, true).refusal, 12);
+    }
     let refused = parse_event(&TRB);
     assert_eq!(
         (refused.refusal, refused.event.kind, refused.raw),

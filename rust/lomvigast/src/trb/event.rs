@@ -161,6 +161,7 @@ impl EventTrb {
             },
             Self::PortStatusChange(t) => CEvent {
                 kind: types::PORT_STATUS_CHANGE_EVENT,
+                code: CompletionCode::Success.into(),
                 port: t.port_id,
                 ..none
             },
