@@ -18,6 +18,8 @@ fn main() {
         return;
     }
     println!("cargo:rustc-cfg=at_hand");
+    // For the build scripts of the crates that use this one: DEP_USBVFIOD_AT_HAND.
+    println!("cargo:at_hand=1");
     println!(
         "cargo:rustc-env=ORIGINAL_EVENT_RING={}",
         event_ring.display()

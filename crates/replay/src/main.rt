@@ -215,10 +215,10 @@ fn file_room() -> [u8; 0x10_0000]
     [0u8; 0x10_0000]
 }
 
-fn memory_room() -> [u8; 0x2000]
-    ensures { λ r. ⌜ 0x2000 ≡ length r ⌝ }
+fn memory_room() -> [u8; 0x1_1000]
+    ensures { λ r. ⌜ 0x11000 ≡ length r ⌝ }
 {
-    [0u8; 0x2000]
+    [0u8; 0x1_1000]
 }
 
 fn main() {

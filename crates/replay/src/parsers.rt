@@ -85,12 +85,9 @@ fn command_text(out: &mut [u8], variant: CommandTrbVariant) -> usize {
             d.deconfigure,
             d.slot_id,
         ),
-        CommandTrbVariant::EvaluateContext(d) => of_context(
+        CommandTrbVariant::EvaluateContext(d) => numbers(
             out,
-            13,
-            d.input_context_pointer,
-            false,
-            d.slot_id,
+            &[0, 13, d.input_context_pointer, wide(d.slot_id)],
         ),
         CommandTrbVariant::ResetEndpoint(d) => of_endpoint(out, 14, d.endpoint_id, d.slot_id),
         CommandTrbVariant::StopEndpoint(d) => of_endpoint(out, 15, d.endpoint_id, d.slot_id),

@@ -1,4 +1,5 @@
 //! Stands in for usbvfiod's bus: guest memory, whose address 0 is byte 0. An access outside it is counted, reads 0 and writes nothing.
+//! Reads in bulk, which are those of whole TRBs, are counted too: only they show how many links were followed.
 
 use std::cell::{Cell, RefCell};
 use std::rc::Rc;
@@ -38,6 +39,7 @@ impl Request {
 pub struct Memory {
     bytes: RefCell<Vec<u8>>,
     outside: Cell<u64>,
+    bulk_reads: Cell<u64>,
 }
 
 impl Memory {
@@ -45,6 +47,7 @@ impl Memory {
         Rc::new(Self {
             bytes: RefCell::new(bytes),
             outside: Cell::new(0),
+            bulk_reads: Cell::new(0),
         })
     }
 
@@ -58,9 +61,14 @@ impl Memory {
         self.outside.take()
     }
 
+    /// How many TRBs were read whole since the last call.
+    pub fn bulk_reads(&self) -> u64 {
+        self.bulk_reads.take()
+    }
+
     pub fn read(&self, request: Request) -> u64 {
         let mut value = [0; 8];
-        self.read_bulk(request.addr, &mut value[..request.length()]);
+        self.copy_out(request.addr, &mut value[..request.length()]);
         u64::from_le_bytes(value)
     }
 
@@ -69,6 +77,11 @@ impl Memory {
     }
 
     pub fn read_bulk(&self, addr: u64, data: &mut [u8]) {
+        self.bulk_reads.set(self.bulk_reads.get() + 1);
+        self.copy_out(addr, data);
+    }
+
+    fn copy_out(&self, addr: u64, data: &mut [u8]) {
         self.with_part(addr, data.len(), |part| data.copy_from_slice(part));
     }
 
