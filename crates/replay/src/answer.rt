@@ -44,3 +44,9 @@ pub fn trb(out: &mut [u8], start: usize, trb: [u8; 16]) -> usize {
     }
     at
 }
+
+// An answer of numbers and a TRB, behind the colon.
+pub fn numbers_and_trb(out: &mut [u8], values: &[u64], raw: [u8; 16]) -> usize {
+    let at = numbers(out, 1, values);
+    trb(out, at, raw)
+}

@@ -4,8 +4,8 @@
 // put into the same text, and the two texts are compared. A line that cannot be read differs.
 mod answer;
 mod input;
-mod parsers;
 mod rings;
+mod trbs;
 
 use libc::STDIN_FILENO;
 use libc::STDOUT_FILENO;
@@ -17,12 +17,8 @@ ghost use lib.ListN.{length};
 // How many differing lines are shown.
 const SHOWN: u64 = 10;
 
-// What the lines up to here have made, and how many agreed and differed.
-struct Run {
-    setting: Setting,
-    line: u64,
-    differ: u64,
-}
+// How many lines of each kind agree, by the kind's letter modulo 32; the first entry, which is no letter's, has how many lines differ.
+type Counts = [u64; 32];
 
 fn text(t: &[u8]) {
     io::write_all(STDOUT_FILENO, t);
@@ -39,11 +35,11 @@ fn one_more(n: u64) -> u64 {
 
 fn without_memory(letter: u8, line: &[u8], out: &mut [u8]) -> usize {
     match letter {
-        b'C' => parsers::command(line, out),
-        b'T' => parsers::transfer(line, out),
-        b'L' => parsers::link(line, out),
-        b'E' => parsers::written(line, out),
-        b'S' => parsers::step(line, out),
+        b'C' => trbs::command(line, out),
+        b'T' => trbs::transfer(line, out),
+        b'L' => trbs::link(line, out),
+        b'E' => trbs::event_bytes(line, out),
+        b'S' => rings::step(line, out),
         _ => 0,
     }
 }
@@ -81,68 +77,55 @@ fn outcome(
     with_memory(setting, letter, line, &mut memory[0..length], out)
 }
 
-// Whether the answer's text, up to `end`, is what was recorded.
-fn agrees(recorded: &[u8], out: &[u8], end: usize) -> bool {
+// The core's answer to a line: its text, behind the colon, in `out`.
+fn answered(setting: Setting, line: &[u8], memory: &mut [u8], out: &mut [u8]) -> Outcome {
+    if line.len() == 0 {
+        return setting.kept(0);
+    }
+    let colon = bytes::scan::find(line, 1, line.len(), b':');
+    outcome(setting, line[0], &line[1..colon], memory, out)
+}
+
+// Whether what stands from the colon on is the answer's text.
+fn agrees(line: &[u8], out: &[u8], end: usize) -> bool {
     if end == 0 {
         return false;
     }
     if out.len() < end {
         return false;
     }
-    check::same(recorded, &out[0..end])
+    let colon = bytes::scan::find(line, 0, line.len(), b':');
+    check::same(&line[colon..], &out[0..end])
 }
 
-// Shows a line as it stands in the file, with the answer of the core behind it.
+// Shows a line as it stands in the file, and the answer's text, of which there is none where the line cannot be read.
 fn show(number_of_line: u64, line: &[u8], out: &[u8], end: usize) {
     number(b"line ", number_of_line);
     text(b" differs: ");
     text(line);
-    if end == 0 {
-        text(b", which cannot be read\n");
-        return;
-    }
-    text(b", got");
+    text(b"; got");
     if end <= out.len() {
         text(&out[0..end]);
     }
     text(b"\n");
 }
 
-fn differs(run: Run, line: &[u8], out: &[u8], end: usize) -> Run {
-    if run.differ < SHOWN {
-        show(run.line, line, out, end);
-    }
-    let setting = run.setting;
-    Run {
-        setting,
-        line: run.line,
-        differ: one_more(run.differ),
-    }
-}
-
-// A line that is no comment.
-fn case(run: Run, line: &[u8], memory: &mut [u8], counts: &mut [u64; 32]) -> Run {
-    let mut out = [0u8; 160];
-    out[0] = b':';
-    if line.len() == 0 {
-        return differs(run, line, &out, 0);
-    }
-    let letter = line[0];
-    let colon = bytes::scan::find(line, 1, line.len(), b':');
-    let setting = run.setting;
-    let outcome = outcome(setting, letter, &line[1..colon], memory, &mut out);
-    let after = outcome.setting;
-    let now = Run {
-        setting: after,
-        line: run.line,
-        differ: run.differ,
-    };
-    if !agrees(&line[colon..], &out, outcome.end) {
-        return differs(now, line, &out, outcome.end);
-    }
+fn count(counts: &mut Counts, letter: u8) {
     let kind = (letter % 32) as usize;
     counts[kind] = one_more(counts[kind]);
-    now
+}
+
+fn compare(number_of_line: u64, line: &[u8], out: &[u8], end: usize, counts: &mut Counts) {
+    if agrees(line, out, end) {
+        if 0 < line.len() {
+            count(counts, line[0]);
+        }
+        return;
+    }
+    if counts[0] < SHOWN {
+        show(number_of_line, line, out, end);
+    }
+    count(counts, 0);
 }
 
 fn is_comment(line: &[u8]) -> bool {
@@ -152,44 +135,52 @@ fn is_comment(line: &[u8]) -> bool {
     line[0] == b'#'
 }
 
-fn next_line(run: Run, line: &[u8], memory: &mut [u8], counts: &mut [u64; 32]) -> Run {
-    let setting = run.setting;
-    let now = Run {
-        setting,
-        line: one_more(run.line),
-        differ: run.differ,
-    };
-    if is_comment(line) {
-        return now;
-    }
-    case(now, line, memory, counts)
+// Room for an answer, of which the colon stands there.
+fn answer_room() -> [u8; 160]
+    ensures { λ r. ⌜ 160 ≡ length r ⌝ }
+{
+    let mut out = [0u8; 160];
+    out[0] = b':';
+    out
 }
 
-// All lines; answers how many differ.
-fn all_lines(text: &[u8], memory: &mut [u8], counts: &mut [u64; 32]) -> u64 {
-    let mut run = Run {
-        setting: Setting::new(),
-        line: 0,
-        differ: 0,
-    };
+fn next_line(
+    setting: Setting,
+    number_of_line: u64,
+    line: &[u8],
+    memory: &mut [u8],
+    counts: &mut Counts,
+) -> Setting {
+    if is_comment(line) {
+        return setting;
+    }
+    let mut out = answer_room();
+    let outcome = answered(setting, line, memory, &mut out);
+    compare(number_of_line, line, &out, outcome.end, counts);
+    outcome.setting
+}
+
+fn all_lines(text: &[u8], memory: &mut [u8], counts: &mut Counts) {
+    let mut setting = Setting::new(0);
+    let mut number_of_line = 0;
     let mut at = 0;
     while at < text.len() {
         let end = bytes::scan::find(text, at, text.len(), b'\n');
-        run = next_line(run, &text[at..end], memory, counts);
+        number_of_line = one_more(number_of_line);
+        setting = next_line(setting, number_of_line, &text[at..end], memory, counts);
         at = end + 1;
     }
-    run.differ
 }
 
-// How many lines of a kind agreed.
-fn kind(counts: &[u64; 32], letter: u8, name: &[u8]) -> u64 {
+// Writes how many lines of a kind agree.
+fn kind(counts: &Counts, letter: u8, name: &[u8]) -> u64 {
     let n = counts[(letter % 32) as usize];
     number(name, n);
     text(b"\n");
     n
 }
 
-fn cases(counts: &[u64; 32]) -> u64 {
+fn cases(counts: &Counts) -> u64 {
     let commands = kind(counts, b'C', b"C commands parsed: ");
     let transfers = kind(counts, b'T', b"T transfer TRBs parsed: ");
     let links = kind(counts, b'L', b"L links parsed: ");
@@ -221,20 +212,25 @@ fn memory_room() -> [u8; 0x1_1000]
     [0u8; 0x1_1000]
 }
 
-fn main() {
-    let mut file = file_room();
-    let length = io::read_full(STDIN_FILENO, &mut file);
-    let mut memory = memory_room();
-    let mut counts = [0u64; 32];
-    let differ = all_lines(&file[..length], &mut memory, &mut counts);
-    let agree = cases(&counts);
-    kind(&counts, b'M', b"M memories made for them: ");
-    kind(&counts, b'P', b"P TRBs put into these: ");
-    if length == file.len() {
-        text(b"the file may be longer than what was read\n");
-    }
+fn report(counts: &Counts) {
+    let agree = cases(counts);
+    kind(counts, b'M', b"M memories made for them: ");
+    kind(counts, b'P', b"P TRBs put into these: ");
+    let differ = counts[0];
     number(b"replay: ", plus(agree, differ));
     number(b" cases read, ", agree);
     number(b" agree, ", differ);
     text(b" differ\n");
+}
+
+fn main() {
+    let mut file = file_room();
+    let length = io::read_full(STDIN_FILENO, &mut file);
+    if length == file.len() {
+        text(b"the file may be longer than what was read\n");
+    }
+    let mut memory = memory_room();
+    let mut counts = [0u64; 32];
+    all_lines(&file[..length], &mut memory, &mut counts);
+    report(&counts);
 }

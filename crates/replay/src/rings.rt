@@ -1,17 +1,17 @@
 // Lines about guest memory and the rings in it.
 use crate::answer;
 use crate::input::Cursor;
-use crate::parsers;
-use crate::parsers::ReadEvent;
-use event_ring::EventRing;
-use event_ring::Moved;
-use linked_ring::Answer;
-use linked_ring::LinkedRing;
+use crate::trbs;
+use lomvigast_ffi::linked;
+use lomvigast_ffi::memory;
+use lomvigast_ffi::rings;
+use lomvigast_ffi::rings::CEventRing;
+use lomvigast_ffi::rings::CMoved;
 
 // What the lines before have made: the memory's length and the event ring.
 pub struct Setting {
     pub length: usize,
-    pub ring: EventRing,
+    pub ring: CEventRing,
 }
 
 // Where the answer's text ends, 0 for a line that cannot be read; and the setting afterwards.
@@ -21,16 +21,28 @@ pub struct Outcome {
 }
 
 impl Setting {
-    pub fn new() -> Self {
+    pub fn new(length: usize) -> Self {
         Setting {
-            length: 0,
-            ring: EventRing::new(),
+            length,
+            ring: rings::lomvigast_new_ring(),
         }
     }
 
     // The setting as it was, beside an answer.
     pub fn kept(self, end: usize) -> Outcome {
         Outcome { end, setting: self }
+    }
+
+    // The setting with the ring moved, beside an answer.
+    fn moved(self, end: usize, moved: CMoved) -> Outcome {
+        let ring = moved.ring;
+        Outcome {
+            end,
+            setting: Setting {
+                length: self.length,
+                ring,
+            },
+        }
     }
 }
 
@@ -51,13 +63,7 @@ pub fn make(setting: Setting, line: &[u8], memory: &mut [u8]) -> Outcome {
         return setting.kept(0);
     }
     clear(memory);
-    Outcome {
-        end: 1,
-        setting: Setting {
-            length: length.value as usize,
-            ring: EventRing::new(),
-        },
-    }
+    Setting::new(length.value as usize).kept(1)
 }
 
 // Sixteen bytes put into memory.
@@ -69,19 +75,20 @@ pub fn poke(line: &[u8], memory: &mut [u8]) -> usize {
         return 0;
     }
     let trb = given.trb;
-    if guest::write_trb(memory, address.value, trb) != 0 {
+    if memory::lomvigast_write_trb(memory, address.value, &trb) != 0 {
         return 0;
     }
     1
 }
 
-fn kind(answer: Answer) -> u64 {
-    match answer {
-        Answer::NothingNew => 0,
-        Answer::Trb => 1,
-        Answer::TooManyLinks => 2,
-        Answer::Refused(_) => 3,
+pub fn step(line: &[u8], out: &mut [u8]) -> usize {
+    let place = Cursor::new().number(line, u64::MAX);
+    let cycle = place.flag(line);
+    if !cycle.ended(line) {
+        return 0;
     }
+    let ring = linked::lomvigast_advance(place.value, cycle.is_set());
+    answer::numbers(out, 1, &[ring.place, ring.cycle as u64])
 }
 
 pub fn chase(line: &[u8], memory: &[u8], out: &mut [u8]) -> usize {
@@ -90,41 +97,32 @@ pub fn chase(line: &[u8], memory: &[u8], out: &mut [u8]) -> usize {
     if !cycle.ended(line) {
         return 0;
     }
-    let chase = LinkedRing::new(place.value, cycle.is_set()).next_trb(memory);
-    let answer = chase.answer;
-    let ring = chase.ring;
-    let notes = chase.notes;
-    let at = answer::numbers(
-        out,
-        1,
-        &[
-            kind(answer),
-            chase.address,
-            ring.place,
-            ring.cycle as u64,
-            notes.links as u64,
-            notes.cleared as u64,
-            notes.completion as u64,
-        ],
-    );
-    let trb = chase.trb;
-    answer::trb(out, at, trb)
+    let c = linked::lomvigast_next_trb(memory, place.value, cycle.is_set());
+    let values = [
+        wide(c.kind),
+        wide(c.refusal),
+        c.address,
+        c.place,
+        c.cycle as u64,
+        c.links as u64,
+        c.cleared as u64,
+        c.completion as u64,
+    ];
+    let trb = c.trb;
+    answer::numbers_and_trb(out, &values, trb)
 }
 
-// The answer's text up to the ring's state.
-fn moved_text(out: &mut [u8], moved: Moved) -> usize {
+// The refusal and the ring's state.
+fn moved_text(out: &mut [u8], moved: CMoved) -> usize {
     let ring = moved.ring;
-    answer::numbers(
-        out,
-        1,
-        &[
-            wide(moved.refusal),
-            ring.index as u64,
-            ring.place,
-            ring.remaining as u64,
-            ring.cycle as u64,
-        ],
-    )
+    let values = [
+        wide(moved.refusal),
+        ring.index as u64,
+        ring.place,
+        ring.remaining as u64,
+        ring.cycle as u64,
+    ];
+    answer::numbers(out, 1, &values)
 }
 
 pub fn configure(setting: Setting, line: &[u8], memory: &[u8], out: &mut [u8]) -> Outcome {
@@ -133,16 +131,20 @@ pub fn configure(setting: Setting, line: &[u8], memory: &[u8], out: &mut [u8]) -
     if !entries.ended(line) {
         return setting.kept(0);
     }
-    let ring = setting.ring;
-    let moved = ring.configure(memory, table.value, entries.as_u16());
-    let after = moved.ring;
-    Outcome {
-        end: moved_text(out, moved),
-        setting: Setting {
-            length: setting.length,
-            ring: after,
-        },
-    }
+    let r = setting.ring;
+    let moved = rings::lomvigast_configure(
+        memory,
+        r.table,
+        r.place,
+        r.remaining,
+        r.entries,
+        r.index,
+        r.ready,
+        r.cycle,
+        table.value,
+        entries.as_u16(),
+    );
+    setting.moved(moved_text(out, moved), moved)
 }
 
 // FNV-1a's product with its prime, 2^40 + 0x1b3, modulo 2^64: by the shift, the high and the low half.
@@ -163,22 +165,27 @@ fn checksum(memory: &[u8]) -> u64 {
 }
 
 pub fn add(setting: Setting, line: &[u8], memory: &mut [u8], out: &mut [u8]) -> Outcome {
-    let ReadEvent::Event(event, cursor) = parsers::event(line) else {
-        return setting.kept(0);
-    };
+    let given = trbs::event(line);
+    let cursor = given.cursor;
     let report = cursor.number(line, u64::MAX);
     if !report.ended(line) {
         return setting.kept(0);
     }
-    let ring = setting.ring;
-    let moved = ring.add(memory, event, report.value);
-    let after = moved.ring;
+    let r = setting.ring;
+    let event = given.event;
+    let moved = rings::lomvigast_add(
+        memory,
+        r.table,
+        r.place,
+        r.remaining,
+        r.entries,
+        r.index,
+        r.ready,
+        r.cycle,
+        event,
+        report.value,
+    );
     let at = moved_text(out, moved);
-    Outcome {
-        end: answer::numbers(out, at, &[checksum(memory)]),
-        setting: Setting {
-            length: setting.length,
-            ring: after,
-        },
-    }
+    let end = answer::numbers(out, at, &[checksum(memory)]);
+    setting.moved(end, moved)
 }

@@ -18,23 +18,24 @@ const HEAD: &str = "\
 # Made by: cargo run --manifest-path rust/Cargo.toml --package side_by_side -- record > crates/replay/stdin
 #
 # A line is a letter, the input, a colon, the answer. Numbers are hexadecimal, a flag is 0 or 1, a TRB is its 16 bytes.
-# C trb: 0 type FIELDS raw        the command parser; FIELDS by the type:
-#     a, 11 slot | b, c pointer flag slot | d pointer slot | e, f endpoint slot | 9, 16, 17 none
-#     10 cycle context-type pointer stream endpoint slot (no input whose stream or context type the original reads elsewhere)
-# T trb: 0 type FIELDS raw        the transfer parser; FIELDS by the type:
-#     1 pointer length short chain completion immediate | 2 byte-0 byte-1 value index length completion
-#     3 as 1, then direction | 4 chain completion direction | 5 none | 7 data chain completion | 8 chain completion
-# C, T trb: refusal type raw      type beside 9 and 10; raw is the TRB beside a refusal, else 0
-# L trb: 1 pointer cleared toggle completion, or 0 for no Link
-# E EVENT cycle: 0 trb            an event written; EVENT is its type and fields:
-#     20 pointer length code flag endpoint slot | 21 pointer parameter code slot | 22 port
-# S place cycle: place cycle      a linked ring set to a place, then advanced
-# M length:                       a memory of zeros, with no event ring, for the lines up to the next M
-# P address trb:                  16 bytes put into it
-# N place cycle: answer address place cycle links cleared completion trb
+# What an answer does not have is 0. EVENT is: type pointer length code event-data endpoint slot port (length is also the parameter).
+# C trb: refusal type pointer stream flag context-type endpoint slot raw
+#     a command; no Set TR Dequeue Pointer whose stream or context type the original reads elsewhere (docs/DIFFERENCES.md)
+# T trb: refusal type pointer length value index byte-0 byte-1 short chain completion immediate direction raw
+# L trb: is-link pointer cleared toggle completion
+# E EVENT cycle: refusal trb
+# S place cycle: place cycle
+#     a linked ring set to a place, then advanced
+# M length:
+#     a memory of zeros, and an event ring never configured, for the lines up to the next M
+# P address trb:
+#     16 bytes put into that memory
+# N place cycle: answer refusal address place cycle links cleared completion trb
 #     a chase; answer 0 nothing new, 1 a TRB, 2 too many links
-# G table entries: 0 index place remaining cycle      an event ring configured
-# A EVENT report: refusal index place remaining cycle sum    an event added; sum is FNV-1a, 64 bits, of all memory
+# G table entries: refusal index place remaining cycle
+#     the event ring configured
+# A EVENT report: refusal index place remaining cycle sum
+#     an event added; sum is FNV-1a, of 64 bits, of the whole memory
 ";
 
 /// Writes the sample, and answers how many cases it has.

@@ -7,10 +7,10 @@ use Rattle.replay.proofs.all_lines.Statement.{statement}
 use Rattle.replay.proofs.all_lines.Tie as tie
 
 abbrev Inv-loop : tie.InvT-loop
-Inv-loop text memory₀ counts₀ run₀ at₀ memory counts run at = length memory ≡ length memory₀
+Inv-loop text memory₀ counts₀ setting₀ number-of-line₀ at₀ memory counts setting number-of-line at = length memory ≡ length memory₀
 
 abbrev μ-loop : tie.MeasureT-loop
-μ-loop text memory₀ counts₀ run₀ at₀ memory counts run at = length text - at
+μ-loop text memory₀ counts₀ setting₀ number-of-line₀ at₀ memory counts setting number-of-line at = length text - at
 
 pub all-lines-spec : {M : Type 1} → statement M
 all-lines-spec =
@@ -20,6 +20,7 @@ all-lines-spec =
     μ-loop
     (λ c κs. search needs)
     (λ c. search needs)
+    (λ c κs. search needs)
     (λ c κs. search needs)
     (λ c. search needs)
     (λ c. search needs)

@@ -62,6 +62,7 @@ fn transfer(pointer: u64, length: u32, code: CompletionCode, flag: bool, ids: [u
             flagged,
             endpoint.into(),
             slot.into(),
+            0,
         ]),
         event: EventTrb::new_transfer_event_trb(pointer, length, code, flag, endpoint, slot),
     }
@@ -70,14 +71,14 @@ fn transfer(pointer: u64, length: u32, code: CompletionCode, flag: bool, ids: [u
 fn completion(pointer: u64, parameter: u32, code: CompletionCode, slot: u8) -> Event {
     let number = u8::from(code).into();
     Event {
-        text: numbers([33, pointer, parameter.into(), number, slot.into()]),
+        text: numbers([33, pointer, parameter.into(), number, 0, 0, slot.into(), 0]),
         event: EventTrb::new_command_completion_event_trb(pointer, parameter, code, slot),
     }
 }
 
 pub fn port(port_id: u8) -> Event {
     Event {
-        text: numbers([34, port_id.into()]),
+        text: numbers([34, 0, 0, 1, 0, 0, 0, port_id.into()]),
         event: EventTrb::new_port_status_change_event_trb(port_id),
     }
 }

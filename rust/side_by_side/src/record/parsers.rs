@@ -3,8 +3,8 @@
 use super::random::Random;
 use super::{bytes, numbers, Sample};
 use original::device::xhci::trb::{
-    CommandTrbVariant, DataStageTrb, LinkTrb, NormalTrb, RawTrbBuffer, SetupStageTrb,
-    TransferTrbVariant, TrbParseError,
+    CommandTrbVariant, DataStageTrb, LinkTrb, NormalTrb, RawTrbBuffer,
+    SetTrDequeuePointerCommandTrbData, SetupStageTrb, TransferTrbVariant, TrbParseError,
 };
 
 const LINK: u8 = 6;
@@ -14,7 +14,8 @@ pub fn record(sample: &mut Sample, random: &mut Random) {
         .chain(bits(9..=17))
         .chain(pointers(11..=13))
     {
-        command(sample, with_streams_alike(trb));
+        let trb = with_streams_alike(trb);
+        sample.case('C', &bytes(&trb), &command(trb));
     }
     for trb in every_type(random).chain(bits(1..=8)).chain(lengths()) {
         sample.case('T', &bytes(&trb), &transfer(trb));
@@ -88,126 +89,198 @@ fn with_streams_alike(mut trb: RawTrbBuffer) -> RawTrbBuffer {
     trb
 }
 
-fn command(sample: &mut Sample, trb: RawTrbBuffer) {
-    sample.case('C', &bytes(&trb), &command_answer(trb));
+/// What a command shows; a field that it does not have is 0.
+#[derive(Default)]
+struct Command {
+    trb_type: u8,
+    pointer: u64,
+    stream: u16,
+    flag: bool,
+    context_type: u8,
+    endpoint: u8,
+    slot: u8,
 }
 
-fn command_answer(trb: RawTrbBuffer) -> String {
+impl Command {
+    fn plain(trb_type: u8, endpoint: u8, slot: u8) -> Self {
+        Self {
+            trb_type,
+            endpoint,
+            slot,
+            ..Self::default()
+        }
+    }
+
+    fn of_context(trb_type: u8, pointer: u64, flag: bool, slot: u8) -> Self {
+        Self {
+            pointer,
+            flag,
+            ..Self::plain(trb_type, 0, slot)
+        }
+    }
+
+    fn of_dequeue(d: &SetTrDequeuePointerCommandTrbData) -> Self {
+        Self {
+            pointer: d.dequeue_pointer,
+            stream: d.stream_id,
+            flag: d.dequeue_cycle_state,
+            context_type: d.stream_context_type,
+            ..Self::plain(16, d.endpoint_id, d.slot_id)
+        }
+    }
+
+    fn text(&self, refusal: u8) -> String {
+        numbers([
+            refusal.into(),
+            self.trb_type.into(),
+            self.pointer,
+            self.stream.into(),
+            self.flag.into(),
+            self.context_type.into(),
+            self.endpoint.into(),
+            self.slot.into(),
+        ])
+    }
+}
+
+fn command(trb: RawTrbBuffer) -> String {
     use CommandTrbVariant as V;
-    let fields = match V::parse(trb) {
-        V::NoOp => numbers([23]),
-        V::EnableSlot => numbers([9]),
-        V::DisableSlot(d) => numbers([10, d.slot_id.into()]),
-        V::AddressDevice(d) => numbers([
-            11,
-            d.input_context_pointer,
-            d.block_set_address_request.into(),
-            d.slot_id.into(),
-        ]),
-        V::ConfigureEndpoint(d) => numbers([
-            12,
-            d.input_context_pointer,
-            d.deconfigure.into(),
-            d.slot_id.into(),
-        ]),
-        V::EvaluateContext(d) => numbers([13, d.input_context_pointer, d.slot_id.into()]),
-        V::ResetEndpoint(d) => numbers([14, d.endpoint_id.into(), d.slot_id.into()]),
-        V::StopEndpoint(d) => numbers([15, d.endpoint_id.into(), d.slot_id.into()]),
-        V::SetTrDequeuePointer(d) => numbers([
-            16,
-            d.dequeue_cycle_state.into(),
-            d.stream_context_type.into(),
-            d.dequeue_pointer,
-            d.stream_id.into(),
-            d.endpoint_id.into(),
-            d.slot_id.into(),
-        ]),
-        V::ResetDevice(d) => numbers([17, d.slot_id.into()]),
-        V::ForceHeader => numbers([22]),
-        V::Unrecognized(raw, error) => return refused(raw, error),
+    let command = match V::parse(trb) {
+        V::NoOp => Command::plain(23, 0, 0),
+        V::EnableSlot => Command::plain(9, 0, 0),
+        V::DisableSlot(d) => Command::plain(10, 0, d.slot_id),
+        V::AddressDevice(d) => {
+            let flag = d.block_set_address_request;
+            Command::of_context(11, d.input_context_pointer, flag, d.slot_id)
+        }
+        V::ConfigureEndpoint(d) => {
+            Command::of_context(12, d.input_context_pointer, d.deconfigure, d.slot_id)
+        }
+        V::EvaluateContext(d) => Command::of_context(13, d.input_context_pointer, false, d.slot_id),
+        V::ResetEndpoint(d) => Command::plain(14, d.endpoint_id, d.slot_id),
+        V::StopEndpoint(d) => Command::plain(15, d.endpoint_id, d.slot_id),
+        V::SetTrDequeuePointer(d) => Command::of_dequeue(&d),
+        V::ResetDevice(d) => Command::plain(17, 0, d.slot_id),
+        V::ForceHeader => Command::plain(22, 0, 0),
+        V::Unrecognized(raw, error) => {
+            let (number, trb_type) = refusal(&error);
+            return Command::plain(trb_type, 0, 0).text(number) + &bytes(&raw);
+        }
     };
-    accepted(fields)
+    command.text(0) + &bytes(&[0; 16])
+}
+
+/// What a transfer TRB shows; a field that it does not have is 0.
+#[derive(Default)]
+struct Transfer {
+    trb_type: u8,
+    pointer: u64,
+    length: u32,
+    /// Setup's value and index, and its bytes 0 and 1.
+    setup: (u16, u16, u8, u8),
+    short: bool,
+    chain: bool,
+    completion: bool,
+    immediate: bool,
+    direction: bool,
+}
+
+impl Transfer {
+    fn plain(trb_type: u8, chain: bool, completion: bool) -> Self {
+        Self {
+            trb_type,
+            chain,
+            completion,
+            ..Self::default()
+        }
+    }
+
+    fn of_normal(d: &NormalTrb) -> Self {
+        Self {
+            pointer: d.data_pointer,
+            length: d.transfer_length,
+            short: d.interrupt_on_short,
+            immediate: d.immediate_data,
+            ..Self::plain(1, d.chain, d.interrupt_on_completion)
+        }
+    }
+
+    fn of_setup(d: &SetupStageTrb) -> Self {
+        Self {
+            length: d.length.into(),
+            setup: (d.value, d.index, d.request_type, d.request),
+            ..Self::plain(2, false, d.interrupt_on_completion)
+        }
+    }
+
+    fn of_data(d: &DataStageTrb) -> Self {
+        Self {
+            pointer: d.data_pointer,
+            length: d.transfer_length,
+            short: d.interrupt_on_short,
+            immediate: d.immediate_data,
+            direction: d.direction,
+            ..Self::plain(3, d.chain, d.interrupt_on_completion)
+        }
+    }
+
+    fn text(&self, refusal: u8) -> String {
+        let (value, index, request_type, request) = self.setup;
+        numbers([
+            refusal.into(),
+            self.trb_type.into(),
+            self.pointer,
+            self.length.into(),
+            value.into(),
+            index.into(),
+            request_type.into(),
+            request.into(),
+            self.short.into(),
+            self.chain.into(),
+            self.completion.into(),
+            self.immediate.into(),
+            self.direction.into(),
+        ])
+    }
 }
 
 fn transfer(trb: RawTrbBuffer) -> String {
     use TransferTrbVariant as V;
-    let fields = match V::parse(trb) {
-        V::Normal(d) => normal(&d),
-        V::SetupStage(d) => setup_stage(&d),
-        V::DataStage(d) => data_stage(&d),
-        V::StatusStage(d) => numbers([
-            4,
-            d.chain.into(),
-            d.interrupt_on_completion.into(),
-            d.direction.into(),
-        ]),
-        V::Isoch => numbers([5]),
-        V::EventData(d) => numbers([
-            7,
-            d.event_data,
-            d.chain.into(),
-            d.interrupt_on_completion.into(),
-        ]),
-        V::NoOp(d) => numbers([8, d.chain.into(), d.interrupt_on_completion.into()]),
-        V::Unrecognized(raw, error) => return refused(raw, error),
+    let transfer = match V::parse(trb) {
+        V::Normal(d) => Transfer::of_normal(&d),
+        V::SetupStage(d) => Transfer::of_setup(&d),
+        V::DataStage(d) => Transfer::of_data(&d),
+        V::StatusStage(d) => Transfer {
+            direction: d.direction,
+            ..Transfer::plain(4, d.chain, d.interrupt_on_completion)
+        },
+        V::Isoch => Transfer::plain(5, false, false),
+        V::EventData(d) => Transfer {
+            pointer: d.event_data,
+            ..Transfer::plain(7, d.chain, d.interrupt_on_completion)
+        },
+        V::NoOp(d) => Transfer::plain(8, d.chain, d.interrupt_on_completion),
+        V::Unrecognized(raw, error) => {
+            let (number, trb_type) = refusal(&error);
+            return Transfer::plain(trb_type, false, false).text(number) + &bytes(&raw);
+        }
     };
-    accepted(fields)
+    transfer.text(0) + &bytes(&[0; 16])
 }
 
-fn normal(d: &NormalTrb) -> String {
-    numbers([
-        1,
-        d.data_pointer,
-        d.transfer_length.into(),
-        d.interrupt_on_short.into(),
-        d.chain.into(),
-        d.interrupt_on_completion.into(),
-        d.immediate_data.into(),
-    ])
-}
-
-fn setup_stage(d: &SetupStageTrb) -> String {
-    numbers([
-        2,
-        d.request_type.into(),
-        d.request.into(),
-        d.value.into(),
-        d.index.into(),
-        d.length.into(),
-        d.interrupt_on_completion.into(),
-    ])
-}
-
-fn data_stage(d: &DataStageTrb) -> String {
-    numbers([
-        3,
-        d.data_pointer,
-        d.transfer_length.into(),
-        d.interrupt_on_short.into(),
-        d.chain.into(),
-        d.interrupt_on_completion.into(),
-        d.immediate_data.into(),
-        d.direction.into(),
-    ])
-}
-
-fn accepted(fields: String) -> String {
-    numbers([0]) + &fields + &bytes(&[0; 16])
-}
-
-fn refused(raw: RawTrbBuffer, error: TrbParseError) -> String {
-    let number_and_type = match error {
-        TrbParseError::UnsupportedOptionalCommand(trb_type, _) => [9, trb_type.into()],
-        TrbParseError::UnknownTrbType(trb_type) => [10, trb_type.into()],
-        TrbParseError::RsvdZViolation => [11, 0],
-    };
-    numbers(number_and_type) + &bytes(&raw)
+/// Document 01's number, and the type beside it.
+fn refusal(error: &TrbParseError) -> (u8, u8) {
+    match *error {
+        TrbParseError::UnsupportedOptionalCommand(trb_type, _) => (9, trb_type),
+        TrbParseError::UnknownTrbType(trb_type) => (10, trb_type),
+        TrbParseError::RsvdZViolation => (11, 0),
+    }
 }
 
 fn link(trb: RawTrbBuffer) -> String {
     original::warnings();
     let Some(link) = LinkTrb::parse(trb) else {
-        return numbers([0]);
+        return numbers([0, 0, 0, 0, 0]);
     };
     let cleared = original::warnings().iter().any(|w| w.contains("RsvdZ"));
     numbers([

@@ -75,7 +75,7 @@ fn chase(sample: &mut Sample, bytes_of: &[u8], place: u64, cycle: bool) {
     let links = bus.bulk_reads() - u64::from(kind != 0);
     let (address, trb) = found.map_or((0, [0; 16]), |trb| (trb.address, trb.buffer));
     let notes = [links, warned("RsvdZ").into(), warned("IOC").into()];
-    let answer = numbers([kind, address, after, state.into()]) + &numbers(notes) + &bytes(&trb);
+    let answer = numbers([kind, 0, address, after, state.into()]) + &numbers(notes) + &bytes(&trb);
     sample.case('N', &numbers([place, cycle.into()]), &answer);
 }
 
