@@ -17,8 +17,13 @@ ghost use lib.ListN.{length};
 // How many differing lines are shown.
 const SHOWN: u64 = 10;
 
-// How many lines of each kind agree, by the kind's letter modulo 32; the first entry, which is no letter's, has how many lines differ.
+// How many lines of each kind agree, by the kind's letter modulo 32; and, at places that no letter has, how many cases agree and how
+// many lines differ.
 type Counts = [u64; 32];
+
+const AGREE: u8 = 0;
+
+const DIFFER: u8 = 31;
 
 fn text(t: &[u8]) {
     io::write_all(STDOUT_FILENO, t);
@@ -31,6 +36,14 @@ fn number(label: &[u8], n: u64) {
 
 fn one_more(n: u64) -> u64 {
     std::num::wrapping_add_u64(n, 1)
+}
+
+// A line's kind; 0 for an empty line.
+fn letter(line: &[u8]) -> u8 {
+    if line.len() == 0 {
+        return 0;
+    }
+    line[0]
 }
 
 fn without_memory(letter: u8, line: &[u8], out: &mut [u8]) -> usize {
@@ -115,24 +128,24 @@ fn count(counts: &mut Counts, letter: u8) {
     counts[kind] = one_more(counts[kind]);
 }
 
-fn compare(number_of_line: u64, line: &[u8], out: &[u8], end: usize, counts: &mut Counts) {
-    if agrees(line, out, end) {
-        if 0 < line.len() {
-            count(counts, line[0]);
-        }
-        return;
+// Counts a line that agrees. M and P lines make what the cases are run on, and are none.
+fn count_agreeing(counts: &mut Counts, letter: u8) {
+    count(counts, letter);
+    match letter {
+        b'M' | b'P' => {}
+        _ => count(counts, AGREE),
     }
-    if counts[0] < SHOWN {
-        show(number_of_line, line, out, end);
-    }
-    count(counts, 0);
 }
 
-fn is_comment(line: &[u8]) -> bool {
-    if line.len() == 0 {
-        return false;
+fn compare(number_of_line: u64, line: &[u8], out: &[u8], end: usize, counts: &mut Counts) {
+    if agrees(line, out, end) {
+        count_agreeing(counts, letter(line));
+        return;
     }
-    line[0] == b'#'
+    if counted(counts, DIFFER) < SHOWN {
+        show(number_of_line, line, out, end);
+    }
+    count(counts, DIFFER);
 }
 
 // Room for an answer, of which the colon stands there.
@@ -151,7 +164,7 @@ fn next_line(
     memory: &mut [u8],
     counts: &mut Counts,
 ) -> Setting {
-    if is_comment(line) {
+    if letter(line) == b'#' {
         return setting;
     }
     let mut out = answer_room();
@@ -172,30 +185,33 @@ fn all_lines(text: &[u8], memory: &mut [u8], counts: &mut Counts) {
     }
 }
 
-// Writes how many lines of a kind agree.
-fn kind(counts: &Counts, letter: u8, name: &[u8]) -> u64 {
-    let n = counts[(letter % 32) as usize];
-    number(name, n);
+fn counted(counts: &Counts, letter: u8) -> u64 {
+    counts[(letter % 32) as usize]
+}
+
+fn kind(counts: &Counts, letter: u8, name: &[u8]) {
+    number(name, counted(counts, letter));
     text(b"\n");
-    n
 }
 
-fn cases(counts: &Counts) -> u64 {
-    let commands = kind(counts, b'C', b"C commands parsed: ");
-    let transfers = kind(counts, b'T', b"T transfer TRBs parsed: ");
-    let links = kind(counts, b'L', b"L links parsed: ");
-    let written = kind(counts, b'E', b"E events written: ");
-    let steps = kind(counts, b'S', b"S steps of a linked ring: ");
-    let chases = kind(counts, b'N', b"N chases: ");
-    let rings = kind(counts, b'G', b"G event rings configured: ");
-    let added = kind(counts, b'A', b"A events added: ");
-    let parsed = plus(plus(commands, transfers), links);
-    let ringed = plus(plus(steps, chases), plus(rings, added));
-    plus(plus(parsed, written), ringed)
+fn kinds(counts: &Counts) {
+    kind(counts, b'C', b"C commands parsed: ");
+    kind(counts, b'T', b"T transfer TRBs parsed: ");
+    kind(counts, b'L', b"L links parsed: ");
+    kind(counts, b'E', b"E events written: ");
+    kind(counts, b'S', b"S steps of a linked ring: ");
+    kind(counts, b'N', b"N chases: ");
+    kind(counts, b'G', b"G event rings configured: ");
+    kind(counts, b'A', b"A events added: ");
+    kind(counts, b'M', b"M memories made for them: ");
+    kind(counts, b'P', b"P TRBs put into these: ");
 }
 
-fn plus(a: u64, b: u64) -> u64 {
-    std::num::wrapping_add_u64(a, b)
+fn totals(agree: u64, differ: u64) {
+    number(b"replay: ", std::num::wrapping_add_u64(agree, differ));
+    number(b" cases read, ", agree);
+    number(b" agree, ", differ);
+    text(b" differ\n");
 }
 
 // Room for the file, and for the memory of a line. The lengths are all that a caller knows of them.
@@ -212,17 +228,6 @@ fn memory_room() -> [u8; 0x1_1000]
     [0u8; 0x1_1000]
 }
 
-fn report(counts: &Counts) {
-    let agree = cases(counts);
-    kind(counts, b'M', b"M memories made for them: ");
-    kind(counts, b'P', b"P TRBs put into these: ");
-    let differ = counts[0];
-    number(b"replay: ", plus(agree, differ));
-    number(b" cases read, ", agree);
-    number(b" agree, ", differ);
-    text(b" differ\n");
-}
-
 fn main() {
     let mut file = file_room();
     let length = io::read_full(STDIN_FILENO, &mut file);
@@ -232,5 +237,6 @@ fn main() {
     let mut memory = memory_room();
     let mut counts = [0u64; 32];
     all_lines(&file[..length], &mut memory, &mut counts);
-    report(&counts);
+    kinds(&counts);
+    totals(counted(&counts, AGREE), counted(&counts, DIFFER));
 }
