@@ -32,7 +32,7 @@ pub fn numbers(out: &mut [u8], start: usize, values: &[u64]) -> usize {
     at
 }
 
-fn wide(b: u8) -> u64 {
+pub fn wide(b: u8) -> u64 {
     b as u64
 }
 

@@ -15,15 +15,11 @@ pub struct ReadTrb {
 
 const NO_DIGIT: u64 = 16;
 
-fn wide(b: u8) -> u64 {
-    b as u64
-}
-
 // What a hexadecimal digit is worth.
 fn worth(b: u8) -> u64 {
     match b {
-        b'0'..=b'9' => wide(b - b'0'),
-        b'a'..=b'f' => wide(b - b'a' + 10),
+        b'0'..=b'9' => (b - b'0') as u64,
+        b'a'..=b'f' => (b - b'a' + 10) as u64,
         _ => NO_DIGIT,
     }
 }

@@ -46,10 +46,6 @@ impl Setting {
     }
 }
 
-fn wide(b: u8) -> u64 {
-    b as u64
-}
-
 fn clear(memory: &mut [u8]) {
     for i in 0..memory.len() {
         memory[i] = 0;
@@ -99,8 +95,8 @@ pub fn chase(line: &[u8], memory: &[u8], out: &mut [u8]) -> usize {
     }
     let c = linked::lomvigast_next_trb(memory, place.value, cycle.is_set());
     let values = [
-        wide(c.kind),
-        wide(c.refusal),
+        c.kind as u64,
+        c.refusal as u64,
         c.address,
         c.place,
         c.cycle as u64,
@@ -116,7 +112,7 @@ pub fn chase(line: &[u8], memory: &[u8], out: &mut [u8]) -> usize {
 fn moved_text(out: &mut [u8], moved: CMoved) -> usize {
     let ring = moved.ring;
     let values = [
-        wide(moved.refusal),
+        moved.refusal as u64,
         ring.index as u64,
         ring.place,
         ring.remaining as u64,
@@ -159,7 +155,7 @@ fn times_prime(n: u64) -> u64 {
 fn checksum(memory: &[u8]) -> u64 {
     let mut sum: u64 = 0xcbf2_9ce4_8422_2325;
     for i in 0..memory.len() {
-        sum = times_prime(sum ^ wide(memory[i]));
+        sum = times_prime(sum ^ answer::wide(memory[i]));
     }
     sum
 }

@@ -7,10 +7,6 @@ use lomvigast_ffi::events::CEvent;
 use lomvigast_ffi::parts;
 use lomvigast_ffi::transfers;
 
-fn wide(b: u8) -> u64 {
-    b as u64
-}
-
 pub fn command(line: &[u8], out: &mut [u8]) -> usize {
     let given = Cursor::new().trb(line);
     let cursor = given.cursor;
@@ -21,14 +17,14 @@ pub fn command(line: &[u8], out: &mut [u8]) -> usize {
     let parsed = commands::lomvigast_parse_command(&trb);
     let c = parsed.command;
     let values = [
-        wide(parsed.refusal),
-        wide(c.kind),
+        parsed.refusal as u64,
+        c.kind as u64,
         c.pointer,
         c.stream as u64,
         c.flag as u64,
-        wide(c.context_type),
-        wide(c.endpoint),
-        wide(c.slot),
+        c.context_type as u64,
+        c.endpoint as u64,
+        c.slot as u64,
     ];
     let raw = parsed.raw;
     answer::numbers_and_trb(out, &values, raw)
@@ -44,14 +40,14 @@ pub fn transfer(line: &[u8], out: &mut [u8]) -> usize {
     let parsed = transfers::lomvigast_parse_transfer(&trb);
     let t = parsed.transfer;
     let values = [
-        wide(parsed.refusal),
-        wide(t.kind),
+        parsed.refusal as u64,
+        t.kind as u64,
         t.pointer,
         t.length as u64,
         t.value as u64,
         t.index as u64,
-        wide(t.request_type),
-        wide(t.request),
+        t.request_type as u64,
+        t.request as u64,
         t.short as u64,
         t.chain as u64,
         t.completion as u64,
@@ -120,5 +116,5 @@ pub fn event_bytes(line: &[u8], out: &mut [u8]) -> usize {
     let event = given.event;
     let written = events::lomvigast_event_bytes(event, cycle.is_set());
     let trb = written.trb;
-    answer::numbers_and_trb(out, &[wide(written.refusal)], trb)
+    answer::numbers_and_trb(out, &[written.refusal as u64], trb)
 }
