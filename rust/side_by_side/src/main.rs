@@ -12,8 +12,11 @@ mod tally;
 
 #[cfg(at_hand)]
 mod compare;
+#[cfg(at_hand)]
+mod record;
 
 use random::Random;
+use std::error::Error;
 use std::process::ExitCode;
 use std::time::{Duration, Instant, SystemTime, UNIX_EPOCH};
 use tally::Tally;
@@ -24,7 +27,9 @@ side_by_side [--seed NUMBER] [--soak SECONDS]
     --seed NUMBER   takes the random inputs of an earlier run
     --soak SECONDS  goes on with random inputs for so long
 side_by_side bench
-    compares their speed (docs/SPEED.md)";
+    compares their speed (docs/SPEED.md)
+side_by_side record
+    writes a sample of the original's answers, which crates/replay runs";
 
 struct Options {
     seed: u64,
@@ -152,16 +157,34 @@ fn compare(words: &[String]) -> ExitCode {
     ExitCode::from(u8::from(counts.differing() != 0))
 }
 
+/// How a subcommand ended.
+fn ended(name: &str, done: Result<(), Box<dyn Error>>) -> ExitCode {
+    match done {
+        Ok(()) => ExitCode::SUCCESS,
+        Err(error) => {
+            eprintln!("side_by_side {name}: {error}");
+            ExitCode::FAILURE
+        }
+    }
+}
+
+#[cfg(at_hand)]
+fn recorded() -> Result<(), Box<dyn Error>> {
+    let cases = record::record(&mut std::io::stdout().lock())?;
+    eprintln!("{cases} cases recorded");
+    Ok(())
+}
+
+#[cfg(not(at_hand))]
+fn recorded() -> Result<(), Box<dyn Error>> {
+    Err("the original is not at hand".into())
+}
+
 fn main() -> ExitCode {
     let words: Vec<String> = std::env::args().skip(1).collect();
-    match words.split_first() {
-        Some((command, words)) if command == "bench" => match bench::main(words) {
-            Ok(()) => ExitCode::SUCCESS,
-            Err(error) => {
-                eprintln!("side_by_side: {error}");
-                ExitCode::FAILURE
-            }
-        },
+    match words.iter().map(String::as_str).collect::<Vec<_>>()[..] {
+        ["bench", ..] => ended("bench", bench::main(&words[1..])),
+        ["record"] => ended("record", recorded()),
         _ => compare(&words),
     }
 }

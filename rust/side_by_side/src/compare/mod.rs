@@ -1,6 +1,6 @@
 //! The original and the port on the same inputs.
 
-mod books;
+pub mod books;
 mod chases;
 mod rings;
 mod trbs;
