@@ -1,36 +1,44 @@
-//! Links the proved archive. It is proved and built anew where it is missing or older than the Rattle sources;
-//! LOMVIGAST_ARCHIVE names a folder with another one, which is taken as it is.
+//! Links the proved archives. They are proved and built anew where one is missing or older than the Rattle sources;
+//! LOMVIGAST_ARCHIVE names a folder with others, which are taken as they are.
 
 use std::path::{Path, PathBuf};
 use std::process::Command;
 use std::time::SystemTime;
-use std::{env, fs, io};
+use std::{env, fs, io, thread};
 
-const NAME: &str = "lomvigast_ffi";
+const ARCHIVES: [&str; 2] = ["lomvigast_ffi", "trb_ffi"];
+
+/// What they are made of, beside themselves.
+const BELOW: [&str; 5] = ["guest", "codes", "trb", "linked_ring", "event_ring"];
 
 fn main() {
     println!("cargo:rerun-if-env-changed=LOMVIGAST_ARCHIVE");
     let folder = env::var_os("LOMVIGAST_ARCHIVE").map_or_else(proved, PathBuf::from);
-    let archive = folder.join(format!("lib{NAME}.a"));
-    println!("cargo:rerun-if-changed={}", archive.display());
     println!("cargo:rustc-link-search=native={}", folder.display());
-    println!("cargo:rustc-link-lib=static={NAME}");
+    for name in ARCHIVES {
+        println!("cargo:rerun-if-changed={}", file(&folder, name).display());
+        println!("cargo:rustc-link-lib=static={name}");
+    }
 }
 
-/// The folder of the archive that `rt staticlib` writes.
+fn file(folder: &Path, name: &str) -> PathBuf {
+    folder.join(format!("lib{name}.a"))
+}
+
+/// The folder of the archives that `rt staticlib` writes.
 fn proved() -> PathBuf {
     let here = env::var_os("CARGO_MANIFEST_DIR").expect("cargo sets CARGO_MANIFEST_DIR");
     let root = Path::new(&here).join("../..");
-    let sources = root.join("crates");
-    let listed = root.join("crates.txt");
-    println!("cargo:rerun-if-changed={}", sources.display());
-    println!("cargo:rerun-if-changed={}", listed.display());
+    let crates = BELOW.iter().chain(&ARCHIVES);
+    let sources = crates.map(|name| root.join("crates").join(name));
+    let changed = sources.chain([root.join("crates.txt")]).map(|source| {
+        println!("cargo:rerun-if-changed={}", source.display());
+        newest(&source).expect("the sources can be read")
+    });
+    let changed = changed.max();
     let folder = root.join("target/staticlib");
-    let archive = folder.join(format!("lib{NAME}.a"));
-    let built = fs::metadata(&archive).and_then(|data| data.modified());
-    let changed = newest(&sources).expect("crates/ can be read");
-    let changed = changed.max(newest(&listed).expect("crates.txt is there"));
-    if !built.is_ok_and(|built| built > changed) {
+    let built = ARCHIVES.map(|name| newest(&file(&folder, name)).ok());
+    if built.iter().any(|built| *built <= changed) {
         prove(&root);
     }
     folder
@@ -48,10 +56,14 @@ fn newest(path: &Path) -> io::Result<SystemTime> {
     Ok(time)
 }
 
-/// `rt check` first, which proves crates that do not depend on each other at the same time.
+/// What does not depend on each other is proved at the same time, so that two processors have work.
 fn prove(root: &Path) {
     rt(root, &["check", "linked_ring", "event_ring"]);
-    rt(root, &["staticlib", NAME]);
+    thread::scope(|scope| {
+        for name in ARCHIVES {
+            scope.spawn(move || rt(root, &["staticlib", name]));
+        }
+    });
 }
 
 fn rt(root: &Path, words: &[&str]) {

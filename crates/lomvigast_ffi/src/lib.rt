@@ -1,9 +1,6 @@
-// The library over the C calling convention. Each export calls one public function of the crates below and answers with a flat record.
-pub mod commands;
+// The rings, events and guest memory over the C calling convention; trb_ffi has the rest. Each export calls one public function of the
+// crates below and answers with a flat record.
 pub mod events;
 pub mod linked;
 pub mod memory;
-pub mod numbers;
-pub mod parts;
 pub mod rings;
-pub mod transfers;

@@ -1,11 +1,11 @@
 // Lines about single TRBs: the parsers, and events written. Each function answers where its text ends, 0 for a line that cannot be read.
 use crate::answer;
 use crate::input::Cursor;
-use lomvigast_ffi::commands;
 use lomvigast_ffi::events;
 use lomvigast_ffi::events::CEvent;
-use lomvigast_ffi::parts;
-use lomvigast_ffi::transfers;
+use trb_ffi::commands;
+use trb_ffi::parts;
+use trb_ffi::transfers;
 
 pub fn command(line: &[u8], out: &mut [u8]) -> usize {
     let given = Cursor::new().trb(line);

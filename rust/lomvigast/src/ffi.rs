@@ -1,6 +1,6 @@
-//! The archive's exports and the records that cross. All that is unsafe stands here.
+//! The archives' exports and the records that cross. All that is unsafe stands here.
 //!
-//! The records are those of crates/lomvigast_ffi/src, field by field; `layout` holds the two beside each other.
+//! The records are those of crates/lomvigast_ffi and crates/trb_ffi, field by field; `layout` holds the two sides beside each other.
 
 use crate::trb::RawTrbBuffer;
 
@@ -60,7 +60,7 @@ records! {
 mod raw {
     use super::*;
 
-    // SAFETY: the archive has these functions with these parameters (tests in `layout`), and none of them has a condition
+    // SAFETY: the archives have these functions with these parameters (tests in `layout`), and none of them has a condition
     // on its arguments beyond what Rust's types say. Those that take a slice's parts are `unsafe`, the rest `safe`.
     unsafe extern "C" {
         pub safe fn lomvigast_set_place(place: u64, cycle: bool) -> CLinkedRing;

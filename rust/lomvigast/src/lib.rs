@@ -1,6 +1,6 @@
 //! The ring core of an xHCI device emulation, proved, under usbvfiod's names.
 //!
-//! What is decided here is decided by an archive in which each function is proved to meet its contract (crates/lomvigast_ffi);
+//! What is decided here is decided by archives in which each function is proved to meet its contract (crates/lomvigast_ffi, crates/trb_ffi);
 //! this crate gives its answers Rust's types. No input is outside a contract: a call answers, or refuses with a [`Refusal`]
 //! that has a number and a sentence, and a refusal changes no byte of guest memory and no ring.
 //!

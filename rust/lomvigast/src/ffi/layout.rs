@@ -12,11 +12,13 @@ pub struct Record {
     pub fields: Vec<(&'static str, &'static str, usize)>,
 }
 
-/// The texts of crates/lomvigast_ffi/src.
+/// The texts of the crates that export.
 fn texts() -> Vec<String> {
-    let folder = Path::new(env!("CARGO_MANIFEST_DIR")).join("../../crates/lomvigast_ffi/src");
-    let mut files: Vec<PathBuf> = fs::read_dir(folder)
-        .expect("the exports stand beside this crate")
+    let crates = Path::new(env!("CARGO_MANIFEST_DIR")).join("../../crates");
+    let folders = ["lomvigast_ffi", "trb_ffi"].map(|name| crates.join(name).join("src"));
+    let mut files: Vec<PathBuf> = folders
+        .iter()
+        .flat_map(|folder| fs::read_dir(folder).expect("the exports stand beside this crate"))
         .map(|entry| entry.expect("a file").path())
         .collect();
     files.sort();

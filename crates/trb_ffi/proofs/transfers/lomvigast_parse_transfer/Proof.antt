@@ -1,0 +1,12 @@
+-- The answer of `parse`, flat. Assumes nothing.
+use borrow.Author.Needs.{needs}
+use Rattle.trb_ffi.proofs.transfers.lomvigast_parse_transfer.Statement.{statement}
+use Rattle.trb_ffi.proofs.transfers.lomvigast_parse_transfer.Tie as tie
+
+pub lomvigast-parse-transfer-spec : {M : Type 1} → statement M
+lomvigast-parse-transfer-spec =
+    tie.close
+    (tie.spec
+    (λ c κs. search needs)
+    (λ c κs. search needs)
+    (λ c. rw (c .flat-parsed .ensures, c .before .parse .ensures)))

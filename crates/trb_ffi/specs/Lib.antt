@@ -1,0 +1,4 @@
+pub mod Commands
+pub mod Numbers
+pub mod Parts
+pub mod Transfers
