@@ -5,7 +5,7 @@
 
 use crate::lines::{quoted, Words};
 use crate::output::Stop;
-use crate::script::MEMORY_LIMIT;
+use crate::script::{named, MEMORY_LIMIT};
 use crate::trbs::Kind;
 use crate::world::zeroed;
 use lomvigast::{GuestMemory, GuestMemoryMut};
@@ -19,6 +19,8 @@ pub const LENGTH: usize = 128 << 20;
 
 pub struct Capture {
     memory: Vec<u8>,
+    /// Memory before this address is 0 because nobody knows it.
+    pub known_from: u64,
     pub rings: Vec<Ring>,
 }
 
@@ -26,8 +28,8 @@ pub struct Ring {
     pub kind: Kind,
     pub name: String,
     pub start: Start,
-    /// Where the driver said it stood: its dequeue place on an event ring, else its enqueue place.
-    pub driver: Option<u64>,
+    /// Where the driver said it stood, with its cycle state: its dequeue place on an event ring, else its enqueue place.
+    pub driver: Option<(u64, bool)>,
 }
 
 /// Where a reader begins.
@@ -41,7 +43,11 @@ pub enum Start {
 
 impl Capture {
     pub fn new(memory: Vec<u8>, rings: Vec<Ring>) -> Self {
-        Self { memory, rings }
+        Self {
+            memory,
+            known_from: 0,
+            rings,
+        }
     }
 
     pub fn memory(&self) -> GuestMemory<'_> {
@@ -71,6 +77,10 @@ impl Capture {
             }
             words.end()
         })?;
+        if rings.is_empty() {
+            let file = folder.join("rings.txt");
+            return Err(Stop::Misuse(format!("{} lists no ring", file.display())));
+        }
         Ok(Self::new(memory, rings))
     }
 
@@ -83,11 +93,13 @@ impl Capture {
                 "the image would end at {end:#x}, and memory from address 0 to there is above the limit of {MEMORY_LIMIT} bytes"
             )));
         }
-        // Below the limit, so it fits.
-        let (base, end) = (base as usize, end as usize);
-        let mut memory = zeroed(end).map_err(Stop::Misuse)?;
-        memory[base..].copy_from_slice(&bytes);
-        Ok(Self::new(memory, rings))
+        // Below the limit, so both fit.
+        let mut memory = zeroed(end as usize).map_err(Stop::Misuse)?;
+        memory[base as usize..].copy_from_slice(&bytes);
+        Ok(Self {
+            known_from: base,
+            ..Self::new(memory, rings)
+        })
     }
 }
 
@@ -98,11 +110,11 @@ fn table_line(words: &mut Words<'_>) -> Result<Start, String> {
 }
 
 fn ring_line(kind: &str, table: Option<Start>, words: &mut Words<'_>) -> Result<Ring, String> {
-    let name = words.word("the ring's name")?.to_owned();
+    let name = named(words)?;
     words.exactly("first")?;
     let first = words.number("the first slot")?;
     words.exactly("cycle")?;
-    words.bit("the driver's cycle state")?;
+    let cycle = words.bit("the driver's cycle state")?;
     words.exactly("dequeue")?;
     let dequeue = words.number("the dequeue place")?;
     words.exactly("enqueue")?;
@@ -126,7 +138,7 @@ fn ring_line(kind: &str, table: Option<Start>, words: &mut Words<'_>) -> Result<
         kind,
         name,
         start,
-        driver: Some(driver),
+        driver: Some((driver, cycle)),
     })
 }
 

@@ -321,7 +321,7 @@ fn limited(words: &mut Words<'_>, what: &str, limit: usize) -> Result<usize, Fau
 }
 
 /// A name of the user's choosing.
-fn named(words: &mut Words<'_>) -> Result<String, Fault> {
+pub fn named(words: &mut Words<'_>) -> Result<String, Fault> {
     const LONGEST: usize = 40;
     let name = words.word("NAME")?;
     let plain = |c: char| c.is_ascii_alphanumeric() || "_-./".contains(c);

@@ -40,14 +40,14 @@ pub fn show(capture: &Capture, json: bool, out: &mut Output<'_>) -> Result<(), S
             let end = walk(capture.memory(), ring, &mut |found| {
                 out.line(found_object(ring, found))
             })?;
-            out.line(end_object(ring, &end, capture.memory()))?;
+            out.line(end_object(ring, &end, capture))?;
         } else {
             out.heading(head_words(ring))?;
             let end = walk(capture.memory(), ring, &mut |found| {
                 let (tone, words) = found_words(ring.kind, found);
                 out.toned(tone, format!("  {words}"))
             })?;
-            let words = end_words(&end, capture.memory());
+            let words = end_words(ring, &end, capture);
             let driver = driver_words(ring, &end);
             out.toned(
                 end.tone(),
@@ -206,7 +206,7 @@ impl End {
 }
 
 /// What ended a ring and why.
-fn end_words(end: &End, memory: GuestMemory<'_>) -> String {
+fn end_words(ring: &Ring, end: &End, capture: &Capture) -> String {
     let (place, cycle) = (end.place, u8::from(end.cycle));
     let words = match &end.answer {
         Some(answer) => answer.to_string(),
@@ -214,9 +214,13 @@ fn end_words(end: &End, memory: GuestMemory<'_>) -> String {
             "GOES ROUND: the reader is back at {place:#x} with cycle state {cycle} and would never end (this is not \"nothing new\")"
         ),
     };
-    // Of a stale TRB there is nothing to say; of a Link in the way there is.
-    match memory.read_trb(place) {
-        Ok(trb) if end.tone() != Tone::Nothing && trb_type(&trb) == 6 => {
+    if end.tone() == Tone::Nothing {
+        // Of a stale TRB there is nothing more to say, unless it was never seen.
+        let unseen = place < capture.known_from;
+        return words + if unseen { UNSEEN } else { "" };
+    }
+    match (ring.start, capture.memory().read_trb(place)) {
+        (Start::Linked(..), Ok(trb)) if trb_type(&trb) == 6 => {
             let link = trbs::line(Kind::Any, &trb).unwrap_or_default();
             format!("{words}; at {place:#x} stands {link}")
         }
@@ -224,15 +228,27 @@ fn end_words(end: &End, memory: GuestMemory<'_>) -> String {
     }
 }
 
+const UNSEEN: &str = "; BUT that is before the image, where memory counts as zero and nobody knows it (this is not \"nothing new\")";
+
+/// Where the driver says it stands. A reader begins with a ring's first pass, so one that has gone round ends elsewhere.
 fn driver_words(ring: &Ring, end: &End) -> String {
-    match ring.driver {
-        None => String::new(),
-        Some(place) if place == end.place => "; the driver's own place is the same".to_owned(),
-        Some(place) => format!("; the driver's own place is {place:#x}"),
+    let Some((place, cycle)) = ring.driver else {
+        return String::new();
+    };
+    if cycle != end.cycle {
+        return format!(
+            "; BUT the driver is at {place:#x} with cycle state {}: what it wrote or took since the first pass is not shown (this is not \"nothing new\")",
+            u8::from(cycle)
+        );
+    }
+    if place == end.place {
+        "; the driver's own place is the same".to_owned()
+    } else {
+        format!("; the driver's own place is {place:#x}")
     }
 }
 
-fn end_object(ring: &Ring, end: &End, memory: GuestMemory<'_>) -> String {
+fn end_object(ring: &Ring, end: &End, capture: &Capture) -> String {
     let (word, number) = match &end.answer {
         Some(answer) => answer.brief(),
         None => ("GOES ROUND", None),
@@ -247,8 +263,11 @@ fn end_object(ring: &Ring, end: &End, memory: GuestMemory<'_>) -> String {
     if let Some((name, number)) = number.filter(|(name, _)| *name != "slot") {
         object = object.number(name, number);
     }
-    if let Some(driver) = ring.driver {
-        object = object.address("driver", driver);
+    if let Some((place, cycle)) = ring.driver {
+        object = object
+            .address("driver", place)
+            .number("driver_cycle", cycle.into());
     }
-    object.text("words", &end_words(end, memory)).line()
+    let words = end_words(ring, end, capture) + &driver_words(ring, end);
+    object.text("words", &words).line()
 }

@@ -47,6 +47,12 @@ impl Answer {
             Self::Code(code) => ("code", "code", u8::from(*code).into()),
             Self::Type(n) => ("type", "type", u64::from(*n)),
             Self::NoLink(n) => ("no Link", "type", u64::from(*n)),
+            Self::NoData(n) => ("no data", "type", u64::from(*n)),
+            Self::Inside(_, _, inside) => ("inside", "inside", u64::from(*inside)),
+            Self::CycleBit(cycle) => ("cycle bit", "cycle", u64::from(*cycle)),
+            Self::Class(_, class) => ("class", "class", *class as u64),
+            Self::Place(ring) => ("place", "cycle", ring.get_dequeue_pointer().1.into()),
+            Self::State(state) => ("state", "ready", state.ready.into()),
             Self::Link(_) => ("read", "type", 6),
             Self::Command(n, _) | Self::Transfer(n, _) => ("read", "type", u64::from(*n)),
             Self::Event(event) => ("read", "type", event_type(event).into()),
@@ -89,6 +95,10 @@ impl fmt::Display for Answer {
             Self::CycleBit(cycle) => format!("cycle bit: {}", u8::from(*cycle)),
             Self::Link(link) => link_words(link),
             Self::NoLink(number) => format!("no Link: the type is {}", type_words(*number)),
+            Self::NoData(number) => format!(
+                "no data: a Normal or a Data Stage TRB points at data, and this is of type {}",
+                type_words(*number)
+            ),
             Self::Command(n, command) => typed(*n, &command_fields(command)),
             Self::Transfer(n, transfer) => typed(*n, &transfer_fields(transfer)),
             Self::Event(event) => typed(event_type(event), &event_fields(event)),

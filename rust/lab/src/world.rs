@@ -4,7 +4,6 @@ use crate::lines::Fault;
 use crate::script::{
     Command, Event, LinkedCall, MemoryCall, ReaderCall, RingCall, Source, TrbCall, ValueCall,
 };
-use crate::trbs;
 use lomvigast::event_ring::{EventReader, EventRing, RingState};
 use lomvigast::linked_ring::{self, LinkedRing, Notes};
 use lomvigast::trb::{
@@ -37,6 +36,8 @@ pub enum Answer {
     Link(LinkTrb),
     /// No Link, but a TRB of this type.
     NoLink(u8),
+    /// No data, but a TRB of this type.
+    NoData(u8),
     Command(u8, CommandTrbVariant),
     Transfer(u8, TransferTrbVariant),
     Event(EventTrb),
@@ -72,6 +73,8 @@ pub struct Accepted {
 /// What a command stops with: a refusal of the core is an answer, a fault of the script is not.
 enum Stop {
     Refusal(Refusal, Option<RawTrbBuffer>),
+    /// A TRB of this type points at no data; also an answer, since the guest chose the type.
+    NoData(u8),
     Fault(Fault),
 }
 
@@ -109,6 +112,7 @@ impl World {
         match answer {
             Ok(answer) => Ok(answer),
             Err(Stop::Refusal(refusal, bytes)) => Ok(Answer::Refused(refusal, bytes)),
+            Err(Stop::NoData(trb_type)) => Ok(Answer::NoData(trb_type)),
             Err(Stop::Fault(fault)) => Err(fault),
         }
     }
@@ -376,9 +380,6 @@ fn dma_info(trb: RawTrbBuffer) -> Result<Box<dyn TrbDmaInfo>, Stop> {
         TransferTrbVariant::Unrecognized(buffer, refusal) => {
             Err(Stop::Refusal(refusal, Some(buffer)))
         }
-        _ => Err(Stop::Fault(format!(
-            "a Normal or a Data Stage TRB points at data, and this is of type {}",
-            trbs::type_words(trb::trb_type(&trb))
-        ))),
+        _ => Err(Stop::NoData(trb::trb_type(&trb))),
     }
 }

@@ -135,7 +135,7 @@ fn json_has_one_object_a_line() {
             r#"{"ring":"commands","address":"0x3000","type":9,"cycle":1,"links":0,"bytes":"00 00 00 00 00 00 00 00 00 00 00 00 01 24 00 00","words":"Enable Slot Command: flags C"}"#
         )
     );
-    let end = r#"{"ring":"circle","end":"GAVE UP","place":"0x7110","cycle":1,"trbs":1,"links":256,"driver":"0x7010","words":"GAVE UP: "#;
+    let end = r#"{"ring":"circle","end":"GAVE UP","place":"0x7110","cycle":1,"trbs":1,"links":256,"driver":"0x7010","driver_cycle":1,"words":"GAVE UP: "#;
     assert!(shown.lines().any(|line| line.starts_with(end)), "{shown}");
 }
 
@@ -152,7 +152,7 @@ fn the_readers_end_where_linux_stands() {
     let ends = ends(&capture);
     assert_eq!(ends.len(), 9);
     for ((name, end), ring) in ends.iter().zip(&capture.rings) {
-        assert_eq!(Some(end.place), ring.driver, "{name}");
+        assert_eq!(Some((end.place, end.cycle)), ring.driver, "{name}");
         assert!(end.cycle, "{name}");
         let answer = end.answer.as_ref().expect("an answer");
         match ring.kind {

@@ -155,6 +155,6 @@ fn a_raw_image_is_shown_from_its_base() {
         text(&said.stdout),
         "ring 0x1000, from 0x00001000 with cycle state 1\n  \
          0x00001000 No-Op Command: flags C (type 23, cycle 1)\n  \
-         nothing new: the next TRB, at 0x0, is stale (1 link followed, cycle state 1); 1 TRB\n"
+         nothing new: the next TRB, at 0x0, is stale (1 link followed, cycle state 1); BUT that is before the image, where memory counts as zero and nobody knows it (this is not \"nothing new\"); 1 TRB\n"
     );
 }

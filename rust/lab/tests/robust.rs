@@ -280,7 +280,7 @@ fn random_memory_as_captures() {
             kind: random.pick(&kinds),
             name: "\"\n".to_owned(),
             start,
-            driver: Some(0),
+            driver: Some((0, true)),
         };
         let capture = Capture::new(memory, starts.map(ring).into());
         let mut out = Vec::new();

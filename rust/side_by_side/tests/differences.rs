@@ -189,6 +189,7 @@ fn link_in_the_transfer_parser() {
 #[test]
 fn not_taken_apart() {
     let full = |trb_type| trb(trb_type, &[(0, 0xff)]);
+    let typed = trb(9, &[(14, 1)]);
     assert_eq!(
         TransferTrbVariant::parse(full(5)),
         TransferTrbVariant::Isoch
@@ -197,12 +198,35 @@ fn not_taken_apart() {
         CommandTrbVariant::parse(full(22)),
         CommandTrbVariant::ForceHeader
     );
-    assert_eq!(CommandTrbVariant::parse(full(23)), CommandTrbVariant::NoOp);
+    assert_eq!(
+        CommandTrbVariant::parse(typed),
+        CommandTrbVariant::EnableSlot
+    );
     original! {
         use theirs::{CommandTrbVariant, TransferTrbVariant};
         assert_eq!(TransferTrbVariant::parse(full(5)), TransferTrbVariant::Isoch);
         assert_eq!(CommandTrbVariant::parse(full(22)), CommandTrbVariant::ForceHeader);
-        assert_eq!(CommandTrbVariant::parse(full(23)), CommandTrbVariant::NoOp);
+        assert_eq!(CommandTrbVariant::parse(typed), CommandTrbVariant::EnableSlot);
+    }
+}
+
+#[test]
+fn other_events() {
+    let refused = |trb_type, code| {
+        let bytes = trb(trb_type, &[(11, code)]);
+        EventTrb::parse(bytes).map_err(|unrecognized| unrecognized.refusal)
+    };
+    assert_eq!(refused(35, 1), Err(Refusal::Type(35)));
+    assert_eq!(refused(33, 192), Err(Refusal::Code));
+    let with_vf_id = EventTrb::parse(trb(33, &[(11, 1), (14, 1)]));
+    assert_eq!(with_vf_id.map_err(Refusal::from), Err(Refusal::Reserved));
+    original! {
+        // There is no fourth kind.
+        match theirs::port(1) {
+            theirs::EventTrb::Transfer(_)
+            | theirs::EventTrb::CommandCompletion(_)
+            | theirs::EventTrb::PortStatusChange(_) => {}
+        }
     }
 }
 
@@ -370,10 +394,13 @@ fn table_of_many_entries() {
 }
 
 #[test]
-fn unaligned_segment() {
-    assert_eq!(configured(&memory(&[(0x110, 1)]), 1), Err(Refusal::Segment));
-    original! {
-        assert_eq!(theirs::configured(&[(0x110, 1)]).state().place, 0x110);
+fn segment_out_of_limits() {
+    for segment in [(0x110, 1), (0x100, 4097), (0x1c0, 5)] {
+        assert_eq!(configured(&memory(&[segment]), 1), Err(Refusal::Segment));
+        original! {
+            let state = theirs::configured(&[segment]).state();
+            assert_eq!((state.place, state.remaining), segment);
+        }
     }
 }
 

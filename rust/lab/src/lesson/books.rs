@@ -103,11 +103,16 @@ const ENTRIES: &[(&str, &str, &str)] = &[
         "a Link is for the link-following reader, not for this parser",
     ),
     (
-        "Isoch, Force Header and the fields of No Op command",
+        "Isoch, Force Header, and the slot type of Enable Slot",
         "parse_transfer ff000000 00000000 00000000 00140000\n\
          parse_command ff000000 00000000 00000000 00580000\n\
-         parse_command ff000000 00000000 00000000 005c0000",
+         parse_command 00000000 00000000 00000000 00240100",
         "known by the type; none of the fields is read",
+    ),
+    (
+        "Other events",
+        "parse_event 00000000 00000000 00000001 008c0000",
+        "the decoder reads what the core writes, and nothing else",
     ),
     (
         "Size of an event segment",
@@ -174,9 +179,16 @@ const ENTRIES: &[(&str, &str, &str)] = &[
         "a table has 1 to 16 entries here",
     ),
     (
-        "A segment that is not aligned",
-        "memory 0x200\npoke 0x0 1001000000000000 01000000\nring events new\nring events configure 0x0 1",
-        "a segment begins at a multiple of 64",
+        "A segment that is not aligned, too long or not all in memory",
+        "memory 0x200\n\
+         poke 0x0 1001000000000000 01000000\n\
+         ring events new\n\
+         ring events configure 0x0 1\n\
+         poke 0x0 0001000000000000 01100000\n\
+         ring events configure 0x0 1\n\
+         poke 0x0 c001000000000000 05000000\n\
+         ring events configure 0x0 1",
+        "a segment begins at a multiple of 64, has 1 to 4096 slots and is all in memory",
     ),
     (
         "A reported place that is no multiple of 16",

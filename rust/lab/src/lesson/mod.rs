@@ -128,7 +128,8 @@ fn transcript(played: &[Played], out: &mut Output<'_>) -> Result<(), Stop> {
             continue;
         }
         if left_out > 0 {
-            out.line(format!("    .. {left_out} more lines of this kind"))?;
+            // No command, so that a script made of the lines after `>` stops here and does not go on without them.
+            out.line(format!("    > .. {left_out} more lines of this kind"))?;
             left_out = 0;
         }
         out.line(format!("    > {line}"))?;
