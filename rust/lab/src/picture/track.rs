@@ -1,7 +1,7 @@
 //! What has become of each slot of each event ring, as a script goes on.
 
 use crate::run::Step;
-use crate::script::{Command, ReaderCall, RingCall};
+use crate::script::{Command, MemoryCall, ReaderCall, RingCall};
 use crate::world::{Answer, World};
 use lomvigast::event_ring::RingState;
 use lomvigast::{GuestMemory, Refusal};
@@ -45,7 +45,7 @@ impl Segment {
 pub struct Tracked {
     table: u64,
     entries: u16,
-    /// As the table said at configure.
+    /// As the table says now; the ring reads an entry when it comes to it.
     pub segments: Vec<Option<Segment>>,
     /// The driver's last report.
     pub report: Option<u64>,
@@ -54,16 +54,22 @@ pub struct Tracked {
 
 impl Tracked {
     fn new(state: &RingState, memory: GuestMemory<'_>, report: Option<u64>) -> Self {
-        const MOST_ENTRIES: u16 = 16;
-        let entries = 0..u64::from(state.entries.min(MOST_ENTRIES));
-        let segment = |n| Segment::of_entry(memory, state.table.checked_add(16 * n)?);
-        Self {
+        let mut tracked = Self {
             table: state.table,
             entries: state.entries,
-            segments: entries.map(segment).collect(),
+            segments: Vec::new(),
             report,
             uses: HashMap::new(),
-        }
+        };
+        tracked.read_table(memory);
+        tracked
+    }
+
+    fn read_table(&mut self, memory: GuestMemory<'_>) {
+        const MOST_ENTRIES: u16 = 16;
+        let entries = 0..u64::from(self.entries.min(MOST_ENTRIES));
+        let segment = |n| Segment::of_entry(memory, self.table.checked_add(16 * n)?);
+        self.segments = entries.map(segment).collect();
     }
 
     pub fn used(&self, slot: u64) -> Use {
@@ -115,9 +121,16 @@ impl Track {
 
     /// Heeds a command that was done.
     pub fn step(&mut self, step: &Step<'_>) {
+        for ring in self.rings.values_mut() {
+            ring.read_table(step.world.memory());
+        }
         match step.command {
             Command::Ring(name, call) => self.on_ring(name, call, step),
             Command::Reader(name, ReaderCall::Take) => self.on_take(name, step),
+            // Other memory, all 0: what the slots held is gone.
+            Command::Memory(MemoryCall::New(_)) => {
+                self.rings.values_mut().for_each(|ring| ring.uses.clear());
+            }
             _ => {}
         }
     }
@@ -243,5 +256,13 @@ mod tests {
         assert_eq!(uses(script), "FF ");
         let wild = "memory 0\nring r from_state ready=1 table=0xffffffffffffffff entries=65535";
         assert_eq!(uses(wild), " ");
+    }
+
+    #[test]
+    fn a_table_that_is_mended_later_and_memory_that_is_new() {
+        let script = "memory 0x100\npoke 0 4000000000000000 01\npoke 16 8100000000000000 01\n\
+            ring r new\nring r configure 0 2\npoke 16 80\nring r add 0x40 port=1\nmemory 0x100\n\
+            poke 0 4000000000000000 01\n";
+        assert_eq!(uses(script), "F FF AF  F ");
     }
 }
