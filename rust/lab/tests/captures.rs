@@ -5,9 +5,9 @@ use lab::output::{Output, Stop};
 use lab::show::{show, walk, End};
 use lab::trbs::{self, Kind};
 use lab::world::Answer;
-use std::fs;
 use std::io::{self, Write};
 use std::path::{Path, PathBuf};
+use std::{env, fs};
 
 fn repository() -> PathBuf {
     Path::new(env!("CARGO_MANIFEST_DIR")).join("../..")
@@ -17,9 +17,11 @@ fn small() -> PathBuf {
     repository().join("captures/small")
 }
 
-/// The captures beside the repository, if they are there.
+/// The capture of Linux, if it is at hand: in shared/captures beside the repository, or where LOMVIGAST_CAPTURES says.
 fn shared() -> Option<PathBuf> {
-    let folder = repository().join("../shared/captures/linux-6.1-qemu-xhci");
+    let beside = repository().join("../shared/captures");
+    let captures = env::var_os("LOMVIGAST_CAPTURES").map_or(beside, PathBuf::from);
+    let folder = captures.join("linux-6.1-qemu-xhci");
     if folder.exists() {
         return Some(folder);
     }
