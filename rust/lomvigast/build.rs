@@ -1,6 +1,7 @@
 //! Links the proved archives. They are proved and built anew where one is missing or older than the Rattle sources;
 //! LOMVIGAST_ARCHIVE names a folder with others, which are taken as they are.
 
+use std::os::unix::fs::symlink;
 use std::path::{Path, PathBuf};
 use std::process::Command;
 use std::time::SystemTime;
@@ -59,11 +60,34 @@ fn newest(path: &Path) -> io::Result<SystemTime> {
 /// What does not depend on each other is proved at the same time, so that two processors have work.
 fn prove(root: &Path) {
     rt(root, &["check", "linked_ring", "event_ring"]);
+    let [here, there] = ARCHIVES;
+    let beside = beside(root).expect("a folder beside can be made");
     thread::scope(|scope| {
-        for name in ARCHIVES {
-            scope.spawn(move || rt(root, &["staticlib", name]));
-        }
+        scope.spawn(|| rt(&beside, &["staticlib", there]));
+        rt(root, &["staticlib", here]);
     });
+    let built = |root: &Path| file(&root.join("target/staticlib"), there);
+    fs::copy(built(&beside), built(root)).expect("the archive can be copied");
+}
+
+/// A second repository over the same sources and proved crates: `rt` keeps notes in target/, and two of them would meet there.
+fn beside(root: &Path) -> io::Result<PathBuf> {
+    let root = root.canonicalize()?;
+    let out = env::var_os("OUT_DIR").expect("cargo sets OUT_DIR");
+    let beside = Path::new(&out).join("beside");
+    if beside.exists() {
+        fs::remove_dir_all(&beside)?;
+    }
+    fs::create_dir_all(beside.join("target/stamp"))?;
+    fs::copy(root.join("crates.txt"), beside.join("crates.txt"))?;
+    symlink(root.join("crates"), beside.join("crates"))?;
+    symlink(root.join("target/rlib"), beside.join("target/rlib"))?;
+    for stamp in fs::read_dir(root.join("target/stamp"))? {
+        let stamp = stamp?;
+        let copy = beside.join("target/stamp").join(stamp.file_name());
+        fs::copy(stamp.path(), copy)?;
+    }
+    Ok(beside)
 }
 
 fn rt(root: &Path, words: &[&str]) {
