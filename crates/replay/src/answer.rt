@@ -23,7 +23,7 @@ fn space(out: &mut [u8], at: usize) -> usize {
 }
 
 // Puts numbers at `at`, and answers where they end.
-pub fn numbers(out: &mut [u8], start: usize, values: &[u64]) -> usize {
+pub(crate) fn numbers(out: &mut [u8], start: usize, values: &[u64]) -> usize {
     let mut at = start;
     for i in 0..values.len() {
         at = space(out, at);
@@ -32,12 +32,12 @@ pub fn numbers(out: &mut [u8], start: usize, values: &[u64]) -> usize {
     at
 }
 
-pub fn wide(b: u8) -> u64 {
+pub(crate) fn wide(b: u8) -> u64 {
     b as u64
 }
 
 // Puts a TRB at `at`, two digits a byte, and answers where it ends.
-pub fn trb(out: &mut [u8], start: usize, trb: [u8; 16]) -> usize {
+pub(crate) fn trb(out: &mut [u8], start: usize, trb: [u8; 16]) -> usize {
     let mut at = space(out, start);
     for i in 0..16 {
         at = digits(out, at, wide(trb[i]), 2);
@@ -46,7 +46,7 @@ pub fn trb(out: &mut [u8], start: usize, trb: [u8; 16]) -> usize {
 }
 
 // An answer of numbers and a TRB, behind the colon.
-pub fn numbers_and_trb(out: &mut [u8], values: &[u64], raw: [u8; 16]) -> usize {
+pub(crate) fn numbers_and_trb(out: &mut [u8], values: &[u64], raw: [u8; 16]) -> usize {
     let at = numbers(out, 1, values);
     trb(out, at, raw)
 }

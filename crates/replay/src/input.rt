@@ -25,7 +25,7 @@ fn worth(b: u8) -> u64 {
 }
 
 impl Cursor {
-    pub fn new() -> Self {
+    pub(crate) fn new() -> Self {
         Cursor {
             at: 0,
             good: true,
@@ -68,7 +68,7 @@ impl Cursor {
     }
 
     // Past a space and a number of one to sixteen digits, which is at most `most`.
-    pub fn number(self, line: &[u8], most: u64) -> Cursor {
+    pub(crate) fn number(self, line: &[u8], most: u64) -> Cursor {
         let start = self.space(line);
         let mut cursor = start;
         for _ in 0..16usize {
@@ -98,7 +98,7 @@ impl Cursor {
     }
 
     // Past a space and a TRB of 32 digits.
-    pub fn trb(self, line: &[u8]) -> ReadTrb {
+    pub(crate) fn trb(self, line: &[u8]) -> ReadTrb {
         let mut cursor = self.space(line);
         let mut trb = [0u8; 16];
         for i in 0..16 {
@@ -108,30 +108,30 @@ impl Cursor {
         ReadTrb { cursor, trb }
     }
 
-    pub fn flag(self, line: &[u8]) -> Cursor {
+    pub(crate) fn flag(self, line: &[u8]) -> Cursor {
         self.number(line, 1)
     }
 
     // The number read last, of which it is known that it is at most so wide.
 
-    pub fn is_set(self) -> bool {
+    pub(crate) fn is_set(self) -> bool {
         self.value == 1
     }
 
-    pub fn as_byte(self) -> u8 {
+    pub(crate) fn as_byte(self) -> u8 {
         (self.value % 0x100) as u8
     }
 
-    pub fn as_u16(self) -> u16 {
+    pub(crate) fn as_u16(self) -> u16 {
         (self.value % 0x1_0000) as u16
     }
 
-    pub fn as_u32(self) -> u32 {
+    pub(crate) fn as_u32(self) -> u32 {
         (self.value % 0x1_0000_0000) as u32
     }
 
     // Whether the line was read to its end, and was good.
-    pub fn ended(self, line: &[u8]) -> bool {
+    pub(crate) fn ended(self, line: &[u8]) -> bool {
         self.good & (self.at == line.len())
     }
 }

@@ -21,7 +21,7 @@ pub struct Outcome {
 }
 
 impl Setting {
-    pub fn new(length: usize) -> Self {
+    pub(crate) fn new(length: usize) -> Self {
         Setting {
             length,
             ring: rings::lomvigast_new_ring(),
@@ -29,7 +29,7 @@ impl Setting {
     }
 
     // The setting as it was, beside an answer.
-    pub fn kept(self, end: usize) -> Outcome {
+    pub(crate) fn kept(self, end: usize) -> Outcome {
         Outcome { end, setting: self }
     }
 
@@ -53,7 +53,7 @@ fn clear(memory: &mut [u8]) {
 }
 
 // A memory of zeros and a new event ring.
-pub fn make(setting: Setting, line: &[u8], memory: &mut [u8]) -> Outcome {
+pub(crate) fn make(setting: Setting, line: &[u8], memory: &mut [u8]) -> Outcome {
     let length = Cursor::new().number(line, memory.len() as u64);
     if !length.ended(line) {
         return setting.kept(0);
@@ -63,7 +63,7 @@ pub fn make(setting: Setting, line: &[u8], memory: &mut [u8]) -> Outcome {
 }
 
 // Sixteen bytes put into memory.
-pub fn poke(line: &[u8], memory: &mut [u8]) -> usize {
+pub(crate) fn poke(line: &[u8], memory: &mut [u8]) -> usize {
     let address = Cursor::new().number(line, u64::MAX);
     let given = address.trb(line);
     let cursor = given.cursor;
@@ -77,7 +77,7 @@ pub fn poke(line: &[u8], memory: &mut [u8]) -> usize {
     1
 }
 
-pub fn step(line: &[u8], out: &mut [u8]) -> usize {
+pub(crate) fn step(line: &[u8], out: &mut [u8]) -> usize {
     let place = Cursor::new().number(line, u64::MAX);
     let cycle = place.flag(line);
     if !cycle.ended(line) {
@@ -87,7 +87,7 @@ pub fn step(line: &[u8], out: &mut [u8]) -> usize {
     answer::numbers(out, 1, &[ring.place, ring.cycle as u64])
 }
 
-pub fn chase(line: &[u8], memory: &[u8], out: &mut [u8]) -> usize {
+pub(crate) fn chase(line: &[u8], memory: &[u8], out: &mut [u8]) -> usize {
     let place = Cursor::new().number(line, u64::MAX);
     let cycle = place.flag(line);
     if !cycle.ended(line) {
@@ -121,7 +121,7 @@ fn moved_text(out: &mut [u8], moved: CMoved) -> usize {
     answer::numbers(out, 1, &values)
 }
 
-pub fn configure(setting: Setting, line: &[u8], memory: &[u8], out: &mut [u8]) -> Outcome {
+pub(crate) fn configure(setting: Setting, line: &[u8], memory: &[u8], out: &mut [u8]) -> Outcome {
     let table = Cursor::new().number(line, u64::MAX);
     let entries = table.number(line, 0xffff);
     if !entries.ended(line) {
@@ -160,7 +160,7 @@ fn checksum(memory: &[u8]) -> u64 {
     sum
 }
 
-pub fn add(setting: Setting, line: &[u8], memory: &mut [u8], out: &mut [u8]) -> Outcome {
+pub(crate) fn add(setting: Setting, line: &[u8], memory: &mut [u8], out: &mut [u8]) -> Outcome {
     let given = trbs::event(line);
     let cursor = given.cursor;
     let report = cursor.number(line, u64::MAX);

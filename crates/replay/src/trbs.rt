@@ -7,7 +7,7 @@ use trb_ffi::commands;
 use trb_ffi::parts;
 use trb_ffi::transfers;
 
-pub fn command(line: &[u8], out: &mut [u8]) -> usize {
+pub(crate) fn command(line: &[u8], out: &mut [u8]) -> usize {
     let given = Cursor::new().trb(line);
     let cursor = given.cursor;
     if !cursor.ended(line) {
@@ -30,7 +30,7 @@ pub fn command(line: &[u8], out: &mut [u8]) -> usize {
     answer::numbers_and_trb(out, &values, raw)
 }
 
-pub fn transfer(line: &[u8], out: &mut [u8]) -> usize {
+pub(crate) fn transfer(line: &[u8], out: &mut [u8]) -> usize {
     let given = Cursor::new().trb(line);
     let cursor = given.cursor;
     if !cursor.ended(line) {
@@ -58,7 +58,7 @@ pub fn transfer(line: &[u8], out: &mut [u8]) -> usize {
     answer::numbers_and_trb(out, &values, raw)
 }
 
-pub fn link(line: &[u8], out: &mut [u8]) -> usize {
+pub(crate) fn link(line: &[u8], out: &mut [u8]) -> usize {
     let given = Cursor::new().trb(line);
     let cursor = given.cursor;
     if !cursor.ended(line) {
@@ -82,7 +82,7 @@ pub struct ReadEvent {
     pub event: CEvent,
 }
 
-pub fn event(line: &[u8]) -> ReadEvent {
+pub(crate) fn event(line: &[u8]) -> ReadEvent {
     let kind = Cursor::new().number(line, 0xff);
     let pointer = kind.number(line, u64::MAX);
     let length = pointer.number(line, 0xffff_ffff);
@@ -106,7 +106,7 @@ pub fn event(line: &[u8]) -> ReadEvent {
     }
 }
 
-pub fn event_bytes(line: &[u8], out: &mut [u8]) -> usize {
+pub(crate) fn event_bytes(line: &[u8], out: &mut [u8]) -> usize {
     let given = event(line);
     let cursor = given.cursor;
     let cycle = cursor.flag(line);

@@ -56,11 +56,10 @@ pub fn check(tree: &Tree) -> Report {
     }
 }
 
-/// The public functions of every library, and the files that cannot be read as Rattle. A program has none.
+/// The public functions of every crate, programs among them, and the files that cannot be read as Rattle.
 fn public_functions(tree: &Tree) -> (Vec<Function>, Vec<Fault>) {
     let (mut found, mut faults) = (Vec::new(), Vec::new());
-    let libraries = tree.crates.iter().filter(|one| one.has("src/lib.rt"));
-    for (file, module) in libraries.flat_map(Crate::modules) {
+    for (file, module) in tree.crates.iter().flat_map(Crate::modules) {
         match functions(&file.name, &module, &file.text) {
             Ok(functions) => found.extend(functions),
             Err(fault) => faults.push(fault),
@@ -227,6 +226,18 @@ pub extern "C" fn exported(x: u8) -> u8
             &faults(source, "- `demo::f`: it is loose."),
             "has a `requires`",
         );
+    }
+
+    #[test]
+    fn a_program_is_read_as_a_library_is() {
+        let mut tree = demo("pub fn f(x: u8) -> u8 { x }", "", "`demo::f`");
+        for (file, path) in [("main.rt", "demo::f"), ("part.rt", "demo::part::f")] {
+            tree.crates[0].files[0].name = format!("crates/demo/src/{file}");
+            tree.promises = format!("`{path}`");
+            let place = format!("crates/demo/src/{file}:1: {path}: no equation of its result");
+            let of_function = |line: &String| line.contains(&place);
+            assert!(lines(&tree).iter().any(of_function), "{:?}", lines(&tree));
+        }
     }
 
     #[test]

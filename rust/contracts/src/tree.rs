@@ -34,7 +34,7 @@ impl Crate {
         self.files.iter().filter_map(move |file| {
             let module = file.name.strip_prefix(&sources)?.strip_suffix(".rt")?;
             let path = match module {
-                "lib" => self.name.clone(),
+                "lib" | "main" => self.name.clone(),
                 _ => format!("{}::{}", self.name, module.replace('/', "::")),
             };
             Some((file, path))

@@ -64,7 +64,7 @@ fn repository(name: &str) -> Repository {
     made.write("crates/trb/src/lib.rt", "pub mod ring;\n");
     made.write("crates/trb/src/ring.rt", RING);
     made.write("crates/trb/specs/Lib.antt", "pub mod Rings\n");
-    made.write("crates/show/src/main.rt", "pub fn main() {}\n");
+    made.write("crates/show/src/main.rt", "fn main() {}\n");
     made.write("docs/LOOSE.md", "- `trb::ring::fill`: any bytes will do.\n");
     made.write(
         "docs/PROMISES.md",
