@@ -93,7 +93,7 @@ fn l1_l2() -> Result<(), Refusal> {
 fn configured(entries: &[(u8, u8)]) -> Result<([u8; 0x200], EventRing), Refusal> {
     let mut bytes = [0; 0x200];
     for (n, (base, size)) in entries.iter().enumerate() {
-        // The bases here are multiples of 0x100, plus 0x40.
+        // Each base is above 0x100 by so much.
         bytes[16 * n..][..9].copy_from_slice(&[*base, 1, 0, 0, 0, 0, 0, 0, *size]);
     }
     let mut ring = EventRing::new();

@@ -98,8 +98,8 @@ impl Stage {
 
 /// Every memory of so many slots, each slot any TRB of an alphabet; from each slot, with both states.
 ///
-/// The alphabet: a Link to each slot with every choice of `flags` (and, where one of them is `bits`, low pointer bits set),
-/// and a Normal TRB; each with both cycle bits.
+/// The alphabet: a Link to each slot, with toggle and without, and a Normal TRB, each with both cycle bits; with `notes` also
+/// Links with low pointer bits or the completion bit set.
 pub fn every_memory(slots: usize, notes: bool) -> Tally {
     let mut tally = Tally::new("chases, every small memory");
     let alphabet = alphabet(slots as u64, notes);
