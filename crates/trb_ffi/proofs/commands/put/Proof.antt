@@ -1,0 +1,53 @@
+-- Arm by arm. Assumes nothing.
+use borrow.Author.Needs.{needs}
+use Rattle.trb_ffi.proofs.commands.put.Statement.{statement}
+use Rattle.trb_ffi.proofs.commands.put.Tie as tie
+
+pub put-spec : {M : Type 1} → statement M
+put-spec =
+    tie.close
+    (tie.spec
+    (λ c. search needs)
+    (λ c κs. search needs)
+    (λ c. search needs)
+    (λ c κs. search needs)
+    (λ c. search needs)
+    (λ c κs. search needs)
+    (λ c κs. search needs)
+    (λ c. search needs)
+    (λ c κs. search needs)
+    (λ c κs. search needs)
+    (λ c. search needs)
+    (λ c κs. search needs)
+    (λ c κs. search needs)
+    (λ c. search needs)
+    (λ c κs. search needs)
+    (λ c κs. search needs)
+    (λ c. search needs)
+    (λ c κs. search needs)
+    (λ c κs. search needs)
+    (λ c. search needs)
+    (λ c κs. search needs)
+    (λ c κs. search needs)
+    (λ c. search needs)
+    (λ c κs. search needs)
+    (λ c κs. search needs)
+    (λ c. search needs)
+    (λ c κs. search needs)
+    (λ c κs. search needs)
+    (λ c. search needs)
+    (λ c κs. search needs)
+    (λ c. search needs)
+    (λ c κs. search needs)
+    (λ c. rw (c .one .ensures, c .before .before .enum-told .given .1))
+    (λ c. rw (c .one2 .ensures, c .before .before .enum-told2 .given .1))
+    (λ c. rw (c .one3 .ensures, c .before .with-slot .ensures, c .before .before .before .before .variant .given .1))
+    (λ c. rw (c .three .ensures, c .before .with-flag .ensures, c .before .before .before .before .variant2 .given .1))
+    (λ c. rw (c .three2 .ensures, c .before .with-flag2 .ensures, c .before .before .before .before .variant3 .given .1))
+    (λ c. rw (c .three3 .ensures, c .before .wide .ensures, c .before .before .before .before .variant4 .given .1))
+    (λ c. rw (c .one4 .ensures, c .before .with-endpoint .ensures, c .before .before .before .before .variant5 .given .1))
+    (λ c. rw (c .one5 .ensures, c .before .with-endpoint2 .ensures, c .before .before .before .before .variant6 .given .1))
+    (λ c. rw (c .three4 .ensures, c .before .dequeue .ensures, c .before .before .before .before .variant7 .given .1))
+    (λ c. rw (c .one6 .ensures, c .before .with-slot2 .ensures, c .before .before .before .before .variant8 .given .1))
+    (λ c. rw (c .one7 .ensures, c .before .before .enum-told3 .given .1))
+    (λ c. rw (c .refuse .ensures, c .before .before .before .variant9 .given .1)))
