@@ -45,10 +45,10 @@ fn refused(number: u8) -> CTrb
     }
 }
 
-// Two dwords, of which d2 has the code in its top byte.
+// The pointer, and two dwords, of which d2 has the code in its top byte.
 fn joined(pointer: u64, length: u64, code: u64, d3: u64) -> CTrb
     requires { ⌜ (length < 2 ^ 24) × (code < 2 ^ 8) × (d3 < 2 ^ 32) ⌝ }
-    ensures { λ r. ⌜ r ≡ record { low = pointer; high = length + code * 2 ^ 24 + d3 * 2 ^ 32 } ⌝ }
+    ensures { λ r. ⌜ (r ≡ record { low = pointer; high = length + code * 2 ^ 24 + d3 * 2 ^ 32 }) × (pointer < 2 ^ 64) ⌝ }
 {
     CTrb {
         low: pointer,
