@@ -50,6 +50,11 @@ plain ws =
     eqb (getD ws 0 0 % 64) 0 && eqb (getD ws 1 0 % 16) 0 && leb 2 (getD ws 2 0) && leb (getD ws 2 0) 4096
     && ltb (getD ws 3 0) (getD ws 4 0) && leb (getD ws 4 0) 16 && eqb (getD ws 5 0) 1 && ltb (getD ws 6 0) 2
 
+-- the words with another place in the same segment
+abbrev pub stepped : ℕ → ℕ → List ℕ → List ℕ
+stepped place remaining ws =
+    getD ws 0 0 ∷ place ∷ remaining ∷ getD ws 3 0 ∷ getD ws 4 0 ∷ getD ws 5 0 ∷ getD ws 6 0 ∷ []
+
 -- ---- what a call leaves: a refusal leaves the words as they were
 
 abbrev pub ringAfter : Moved → List ℕ → List ℕ

@@ -5,15 +5,14 @@ use linked_ring::Chase;
 use linked_ring::LinkedRing;
 use linked_ring::Notes;
 ghost use mathlib.Core.Path.{_≡_};
-ghost use Prim.Native.Nat.{_+_, _-_, _*_, _%_, _^_, _≤_, _<_};
-ghost use mathlib.Core.Bool.{Bool, true};
+ghost use mathlib.Core.List.{[], _∷_};
+ghost use Prim.Native.Nat.{_+_, _-_, _*_, _%_, _^_, _<_};
 ghost use lib.Dec.{eqb};
-ghost use lib.ListN.{getD, set};
-ghost use Rattle.guest.specs.Memory.{inside};
+ghost use lib.ListN.{set};
+ghost use Rattle.guest.specs.Answers.{numberAt};
 ghost use Rattle.trb.specs.Trb.{bit};
-ghost use Rattle.linked_ring.specs.Chase.{ringAt, advanced, chase, chaseFrom, ended, found, numberOf};
-ghost use Rattle.linked_ring.specs.declared.Answer.{Answer};
-ghost use Rattle.guest.specs.Memory.{trbAt};
+ghost use Rattle.linked_ring.specs.Chase.{ringAt, advanced, chase, chaseFrom, numberOf};
+ghost use Rattle.lomvigast_ffi.specs.Memory.{valueOf};
 ghost use Rattle.lomvigast_ffi.specs.Linked.{ringOf, ringWords, ringAfter, kindOf, notesWord, counted, flatChase};
 
 // The place, and the cycle state as 0 or 1.
@@ -59,12 +58,14 @@ fn kind(answer: Answer) -> u64
     }
 }
 
-fn is_refused(answer: Answer) -> bool {
+fn refusal(answer: Answer) -> u8
+    ensures { λ r. ⌜ r ≡ numberOf answer ⌝ }
+{
     match answer {
-        Answer::NothingNew => false,
-        Answer::Trb => false,
-        Answer::TooManyLinks => false,
-        Answer::Refused(number) => number != 0,
+        Answer::NothingNew => 0,
+        Answer::Trb => 0,
+        Answer::TooManyLinks => 0,
+        Answer::Refused(number) => number,
     }
 }
 
@@ -89,8 +90,11 @@ fn flat_chase(c: Chase) -> CChase
     }
 }
 
-// A Link that leaves something to note, a TRB outside memory, or the 256th link: the whole rule, from here on.
-fn go_on(mem: &[u8], ring: &mut CLinkedRing, place: u64, cycle: u64, links: u16) -> CChase {
+// A Link that leaves something to note, a TRB outside memory, or the 257th fresh Link: the whole rule, from here on.
+fn go_on(mem: &[u8], ring: &mut CLinkedRing, place: u64, cycle: u64, links: u16) -> CChase
+    ensures { λ r. ⌜ (r ≡ flatChase (chaseFrom (now (mem .entry)) (ringOf (now (ring .entry))) (256 - links) (ringAt place (eqb cycle 1)) (counted links)))
+        × (now (ring .exit) ≡ ringAfter (chaseFrom (now (mem .entry)) (ringOf (now (ring .entry))) (256 - links) (ringAt place (eqb cycle 1)) (counted links)) (now (ring .entry))) ⌝ }
+{
     let entry = ring_of(ring);
     let notes = Notes {
         links,
@@ -100,38 +104,47 @@ fn go_on(mem: &[u8], ring: &mut CLinkedRing, place: u64, cycle: u64, links: u16)
     let here = LinkedRing::new(place, cycle == 1);
     let c = here.go_on(mem, entry, notes);
     let answer = c.answer;
-    if !is_refused(answer) {
-        put(ring, c.ring.place, bit(c.ring.cycle));
+    if refusal(answer) != 0 {
+        return flat_chase(c);
     }
+    put(ring, c.ring.place, bit(c.ring.cycle));
     flat_chase(c)
 }
 
-fn found(mem: &[u8], ring: &mut CLinkedRing, place: u64, cycle: u64, links: u64) -> CChase {
+fn found(mem: &[u8], ring: &mut CLinkedRing, place: u64, cycle: u64, links: u16) -> CChase
+    ensures { λ r. ⌜ (r ≡ record { kind = 1; address = place; low = valueOf (numberAt (now (mem .entry)) place 8); high = valueOf (numberAt (now (mem .entry)) ((place + 8) % 2 ^ 64) 8); notes = links })
+        × (now (ring .exit) ≡ place ∷ cycle ∷ []) ⌝ }
+{
     put(ring, place, cycle);
     CChase {
         kind: 1,
         address: place,
         low: crate::memory::eight(mem, place),
         high: crate::memory::eight(mem, std::num::wrapping_add_u64(place, 8)),
-        notes: links,
+        notes: links as u64,
     }
 }
 
-fn nothing_new(ring: &mut CLinkedRing, place: u64, cycle: u64, links: u64) -> CChase {
+fn nothing_new(ring: &mut CLinkedRing, place: u64, cycle: u64, links: u16) -> CChase
+    ensures { λ r. ⌜ (r ≡ record { kind = 0; address = 0; low = 0; high = 0; notes = links }) × (now (ring .exit) ≡ place ∷ cycle ∷ []) ⌝ }
+{
     put(ring, place, cycle);
     CChase {
         kind: 0,
         address: 0,
         low: 0,
         high: 0,
-        notes: links,
+        notes: links as u64,
     }
 }
 
-// Links that leave nothing to note are followed here, all else by `go_on`. The place is the Link's pointer as it was read, and no
-// result of a test: so the next TRB is read without waiting.
+// Links that leave nothing to note are followed here, all else by `go_on`. The next place is a Link's pointer as it was read and not what
+// is left of it after a mask, so that the next TRB can be read a step earlier.
 #[no_mangle]
-pub extern "C" fn lomvigast_next_trb(mem: &[u8], ring: &mut CLinkedRing) -> CChase {
+pub extern "C" fn lomvigast_next_trb(mem: &[u8], ring: &mut CLinkedRing) -> CChase
+    ensures { λ r. ⌜ (r ≡ flatChase (chase (now (mem .entry)) (ringOf (now (ring .entry)))))
+        × (now (ring .exit) ≡ ringAfter (chase (now (mem .entry)) (ringOf (now (ring .entry)))) (now (ring .entry))) ⌝ }
+{
     let mut place = ring[0];
     let mut cycle = ring[1] % 2;
     let mut links = 0u16;
@@ -141,13 +154,13 @@ pub extern "C" fn lomvigast_next_trb(mem: &[u8], ring: &mut CLinkedRing) -> CCha
         }
         let d3 = crate::memory::four(mem, std::num::wrapping_add_u64(place, 12));
         if d3 % 2 != cycle {
-            return nothing_new(ring, place, cycle, links as u64);
+            return nothing_new(ring, place, cycle, links);
         }
         if d3 / 0x400 % 0x40 != (trb_types::LINK as u64) {
-            return found(mem, ring, place, cycle, links as u64);
+            return found(mem, ring, place, cycle, links);
         }
         let low = crate::memory::eight(mem, place);
-        if (d3 / 0x20 % 2 != 0) | (low % 16 != 0) {
+        if !((d3 / 0x20 % 2 == 0) & (low % 16 == 0)) {
             return go_on(mem, ring, place, cycle, links);
         }
         place = low;

@@ -7,7 +7,7 @@ ghost use mathlib.Core.Path.{_≡_};
 ghost use Rattle.trb.specs.Trb.{bit};
 ghost use Rattle.event_ring.specs.Ring.{empty, configured, readerAt, readerConfigured, take};
 ghost use Rattle.words.specs.Events.{eventIn};
-ghost use Rattle.lomvigast_ffi.specs.Rings.{wordsOf, fits, stateOf, plain, ringAfter, readerAfter, addedFrom, memoryFrom, takeNumber, putTaken, takenFrom};
+ghost use Rattle.lomvigast_ffi.specs.Rings.{wordsOf, fits, stateOf, plain, stepped, ringAfter, readerAfter, addedFrom, memoryFrom, takeNumber, putTaken, takenFrom};
 
 // A word for each field, in this order. A new field is a word more: here, in specs/Rings.antt, in Rust's `State` and in
 // include/lomvigast.h.
@@ -88,6 +88,21 @@ fn plain(ring: &CEventRing) -> bool
         & (ring[ENTRIES] <= 16)
         & (ring[READY] == 1)
         & (ring[CYCLE] < 2)
+}
+
+// Another place in the same segment.
+fn step(ring: &mut CEventRing, place: u64, remaining: u64)
+    ensures { λ _. ⌜ now (ring .exit) ≡ stepped place remaining (now (ring .entry)) ⌝ }
+{
+    *ring = [
+        ring[TABLE],
+        place,
+        remaining,
+        ring[INDEX],
+        ring[ENTRIES],
+        ring[READY],
+        ring[CYCLE],
+    ];
 }
 
 #[no_mangle]
@@ -176,22 +191,10 @@ pub extern "C" fn lomvigast_add(
     if trb.high < 0x100 {
         return add(mem, ring, event, report);
     }
+    let remaining = ring[REMAINING] - 1;
     guest::write_trb(mem, place, guest::whole(trb.low, trb.high));
-    step(ring);
+    step(ring, place + 16, remaining);
     0
-}
-
-// One slot on in its segment.
-fn step(ring: &mut CEventRing) {
-    *ring = [
-        ring[TABLE],
-        std::num::wrapping_add_u64(ring[PLACE], 16),
-        std::num::wrapping_sub_u64(ring[REMAINING], 1),
-        ring[INDEX],
-        ring[ENTRIES],
-        ring[READY],
-        ring[CYCLE],
-    ];
 }
 
 // The whole rule.
@@ -227,7 +230,8 @@ pub extern "C" fn lomvigast_take(mem: &[u8], reader: &mut CEventRing, out: &mut 
     if high / 0x1_0000_0000 % 2 != reader[CYCLE] {
         return NOTHING;
     }
+    let remaining = reader[REMAINING] - 1;
     *out = [crate::memory::eight(mem, place), high];
-    step(reader);
+    step(reader, place + 16, remaining);
     0
 }
