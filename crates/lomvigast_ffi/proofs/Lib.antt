@@ -1,1 +1,4 @@
+pub mod Slots
 pub mod States
+pub mod Usual
+pub mod Links

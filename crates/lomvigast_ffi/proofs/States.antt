@@ -4,6 +4,7 @@ use mathlib.Core.Path.{_≡_, refl, sym, ap, ap₂, _∙_}
 use mathlib.Core.Bool.{Bool, true, false, cond, _&&_}
 use mathlib.Core.List.{List, [], _∷_}
 use Prim.Native.Nat.{ℕ, zero, suc, _+_, _-_, _%_, _^_, _≤_, _<_}
+use native.Mathlib.Nat.{mod-eq-of-lt}
 use native.Mathlib.Omega.{arith}
 use borrow.Author.Tests.{leb-true, ltb-true, eqb-true, le-leb, lt-ltb, eq-eqb, ne-eqb}
 use lib.Dec.{eqb, ltb, leb}
@@ -19,6 +20,20 @@ bit-one : (n : ℕ) → n < 2 → bit (eqb n 1) ≡ n
 bit-one zero h = refl
 bit-one (suc zero) h = refl
 bit-one (suc (suc n)) h = absurd (omega arith)
+
+-- a word that its field can hold is read whole
+pub held : (ws : List ℕ) → fits ws ≡ true
+    → (getD ws 2 0 % 2 ^ 32 ≡ getD ws 2 0) × (getD ws 3 0 % 2 ^ 16 ≡ getD ws 3 0) × (getD ws 4 0 % 2 ^ 16 ≡ getD ws 4 0)
+unfolding fits
+held ws h =
+    let a1 = ltb (getD ws 2 0) (2 ^ 32) in
+    let a2 = a1 && ltb (getD ws 3 0) (2 ^ 16) in
+    let a3 = a2 && ltb (getD ws 4 0) (2 ^ 16) in
+    let a4 = a3 && ltb (getD ws 5 0) 2 in
+    let h3 = both a3 _ (both a4 _ h .0) .0 in
+    let h2 = both a2 _ h3 in
+    let h1 = both a1 _ (h2 .0) in
+    (mod-eq-of-lt (ltb-true _ _ (h1 .0)), mod-eq-of-lt (ltb-true _ _ (h1 .1)), mod-eq-of-lt (ltb-true _ _ (h2 .1)))
 
 module _ (ws : List ℕ) (h : plain ws ≡ true) where
   abbrev w : ℕ → ℕ

@@ -72,6 +72,10 @@ abbrev pub memoryFrom : Memory → EventRing → EventVariant → ℕ → Memory
 memoryFrom m s (EventVariant.Event e) report = addedMemory m s e report
 memoryFrom m s (EventVariant.Unrecognized x) report = m
 
+abbrev pub ringFrom : Memory → List ℕ → EventVariant → ℕ → List ℕ
+ringFrom m ws (EventVariant.Event e) report = ringAfter (added m (stateOf ws) e report) ws
+ringFrom m ws (EventVariant.Unrecognized x) report = ws
+
 -- ---- a take: 0 for an event, 255 for nothing, or the refusal's number
 
 abbrev pub takeNumber : Take → ℕ

@@ -7,7 +7,7 @@ ghost use mathlib.Core.Path.{_≡_};
 ghost use Rattle.trb.specs.Trb.{bit};
 ghost use Rattle.event_ring.specs.Ring.{empty, configured, readerAt, readerConfigured, take};
 ghost use Rattle.words.specs.Events.{eventIn};
-ghost use Rattle.lomvigast_ffi.specs.Rings.{wordsOf, fits, stateOf, plain, stepped, ringAfter, readerAfter, addedFrom, memoryFrom, takeNumber, putTaken, takenFrom};
+ghost use Rattle.lomvigast_ffi.specs.Rings.{wordsOf, fits, stateOf, plain, stepped, ringAfter, readerAfter, addedFrom, memoryFrom, ringFrom, takeNumber, putTaken, takenFrom};
 
 // A word for each field, in this order. A new field is a word more: here, in specs/Rings.antt, in Rust's `State` and in
 // include/lomvigast.h.
@@ -151,7 +151,7 @@ pub extern "C" fn lomvigast_configure_reader(
 
 // The whole rule.
 fn add(mem: &mut [u8], ring: &mut CEventRing, event: &[u64; 3], report: u64) -> u8
-    ensures { λ r. ⌜ (r ≡ addedFrom (now (mem .entry)) (stateOf (now (ring .entry))) (eventIn (now (event .entry))) report .refusal) × (now (mem .exit) ≡ memoryFrom (now (mem .entry)) (stateOf (now (ring .entry))) (eventIn (now (event .entry))) report) × (now (ring .exit) ≡ ringAfter (addedFrom (now (mem .entry)) (stateOf (now (ring .entry))) (eventIn (now (event .entry))) report) (now (ring .entry))) ⌝ }
+    ensures { λ r. ⌜ (r ≡ addedFrom (now (mem .entry)) (stateOf (now (ring .entry))) (eventIn (now (event .entry))) report .refusal) × (now (mem .exit) ≡ memoryFrom (now (mem .entry)) (stateOf (now (ring .entry))) (eventIn (now (event .entry))) report) × (now (ring .exit) ≡ ringFrom (now (mem .entry)) (now (ring .entry)) (eventIn (now (event .entry))) report) ⌝ }
 {
     let given = words::event::given(event);
     let EventVariant::Event(e) = given else {
@@ -175,7 +175,7 @@ pub extern "C" fn lomvigast_add(
     event: &[u64; 3],
     report: u64,
 ) -> u8
-    ensures { λ r. ⌜ (r ≡ addedFrom (now (mem .entry)) (stateOf (now (ring .entry))) (eventIn (now (event .entry))) report .refusal) × (now (mem .exit) ≡ memoryFrom (now (mem .entry)) (stateOf (now (ring .entry))) (eventIn (now (event .entry))) report) × (now (ring .exit) ≡ ringAfter (addedFrom (now (mem .entry)) (stateOf (now (ring .entry))) (eventIn (now (event .entry))) report) (now (ring .entry))) ⌝ }
+    ensures { λ r. ⌜ (r ≡ addedFrom (now (mem .entry)) (stateOf (now (ring .entry))) (eventIn (now (event .entry))) report .refusal) × (now (mem .exit) ≡ memoryFrom (now (mem .entry)) (stateOf (now (ring .entry))) (eventIn (now (event .entry))) report) × (now (ring .exit) ≡ ringFrom (now (mem .entry)) (now (ring .entry)) (eventIn (now (event .entry))) report) ⌝ }
 {
     let place = ring[PLACE];
     if !(plain(ring) & (report % EventRing::SLOT_SIZE == 0)) {
@@ -198,7 +198,9 @@ pub extern "C" fn lomvigast_add(
 }
 
 // The whole rule.
-fn take(mem: &[u8], reader: &mut CEventRing, out: &mut [u64; 2]) -> u8 {
+fn take(mem: &[u8], reader: &mut CEventRing, out: &mut [u64; 2]) -> u8
+    ensures { λ r. ⌜ (r ≡ takeNumber (take (now (mem .entry)) (readerAt (stateOf (now (reader .entry)))) .answer)) × (now (reader .exit) ≡ takenFrom (take (now (mem .entry)) (readerAt (stateOf (now (reader .entry))))) (now (reader .entry))) × (now (out .exit) ≡ putTaken (take (now (mem .entry)) (readerAt (stateOf (now (reader .entry))))) (now (out .entry))) ⌝ }
+{
     let state = state(reader);
     let taken = EventReader { state }.take(mem);
     let answer = taken.answer;
@@ -218,7 +220,9 @@ fn take(mem: &[u8], reader: &mut CEventRing, out: &mut [u64; 2]) -> u8 {
 // Takes the event that stands in the reader's slot, if the slot is fresh: 0, with the event's halves in `out`; 255 where it is not. The
 // usual case, in which the reader goes on in its segment, is done here; all else by `take`.
 #[no_mangle]
-pub extern "C" fn lomvigast_take(mem: &[u8], reader: &mut CEventRing, out: &mut [u64; 2]) -> u8 {
+pub extern "C" fn lomvigast_take(mem: &[u8], reader: &mut CEventRing, out: &mut [u64; 2]) -> u8
+    ensures { λ r. ⌜ (r ≡ takeNumber (take (now (mem .entry)) (readerAt (stateOf (now (reader .entry)))) .answer)) × (now (reader .exit) ≡ takenFrom (take (now (mem .entry)) (readerAt (stateOf (now (reader .entry))))) (now (reader .entry))) × (now (out .exit) ≡ putTaken (take (now (mem .entry)) (readerAt (stateOf (now (reader .entry))))) (now (out .entry))) ⌝ }
+{
     let place = reader[PLACE];
     if !plain(reader) {
         return take(mem, reader, out);
@@ -226,11 +230,12 @@ pub extern "C" fn lomvigast_take(mem: &[u8], reader: &mut CEventRing, out: &mut 
     if !guest::inside(mem, place, 16) {
         return take(mem, reader, out);
     }
-    let high = crate::memory::eight(mem, std::num::wrapping_add_u64(place, 8));
-    if high / 0x1_0000_0000 % 2 != reader[CYCLE] {
+    let d3 = crate::memory::four(mem, std::num::wrapping_add_u64(place, 12));
+    if d3 % 2 != reader[CYCLE] {
         return NOTHING;
     }
     let remaining = reader[REMAINING] - 1;
+    let high = crate::memory::eight(mem, std::num::wrapping_add_u64(place, 8));
     *out = [crate::memory::eight(mem, place), high];
     step(reader, place + 16, remaining);
     0

@@ -1,75 +1,37 @@
+-- By the event that was given, then by what add answered. Assumes nothing.
+use mathlib.Core.Path.{_≡_, refl, sym, ap, ap₂, _∙_}
+use borrow.Author.Tests.{eq-eqb, ne-eqb}
+use Rattle.guest.specs.Memory.{Memory}
+use Rattle.event_ring.specs.Ring.{added, addedMemory}
+use Rattle.event_ring.specs.declared.EventRing.{EventRing}
+use Rattle.lomvigast_ffi.specs.Rings.{stateOf}
 use borrow.Author.Needs.{needs}
 use Rattle.lomvigast_ffi.proofs.rings.add.Statement.{statement}
 use Rattle.lomvigast_ffi.proofs.rings.add.Tie as tie
-use Rattle.lomvigast_ffi.proofs.rings.add.Reads as reads
-use Rattle.lomvigast_ffi.proofs.rings.add.Lts as lts
-use Rattle.event_ring.proofs.EventRing.add.Reads as add-reads
-use Rattle.lomvigast_ffi.proofs.rings.put.Reads as put-reads
-use Rattle.lomvigast_ffi.proofs.rings.state.Reads as state-reads
-use Rattle.words.proofs.event.given.Reads as given-reads
-use Rattle.words.proofs.event.number.Reads as number-reads
 
--- src/rings.rt:141:9
-given-requires : tie.Need-given-requires
-given-requires c κs = search needs
+-- what add answered, and what it left, of the state that the words say
+came : (c : tie.After-add) → let x = c .before .before .before .before .before .before .before .before .before .args in c .add .result ≡ added (x .mem .now) (stateOf (x .ring .now)) (c .before .before .before .before .before .given2 .given .0 .0) (x .report)
+came c = let x = c .before .before .before .before .before .before .before .before .before .args in
+    c .add .ensures .0 ∙ ap (λ (r : EventRing). added (x .mem .now) r (c .before .before .before .before .before .given2 .given .0 .0) (x .report)) (c .before .before .state .ensures)
 
--- src/rings.rt:142:29
-enum-known-given : tie.Need-enum-known-given
-enum-known-given c = search needs
-
--- src/rings.rt:143:9
-enum-told : tie.Need-enum-told
-enum-told c = search needs
-
--- src/rings.rt:143:9
-number-requires : tie.Need-number-requires
-number-requires c κs = search needs
-
--- src/rings.rt:143:9
-returns : tie.Need-returns
-returns c = ?
-
--- src/rings.rt:145:17
-state-requires : tie.Need-state-requires
-state-requires c κs = search needs
-
--- src/rings.rt:145:9
-add-requires : tie.Need-add-requires
-add-requires c κs = search needs
-
--- src/rings.rt:147:9
-same-length : tie.Need-same-length
-same-length c = search needs
-
--- src/rings.rt:147:9
-returns-2 : tie.Need-returns-2
-returns-2 c = ?
-
--- src/rings.rt:150:5
-put-requires : tie.Need-put-requires
-put-requires c κs = search needs
-
--- src/rings.rt:138:1
-same-length-2 : tie.Need-same-length-2
-same-length-2 c = search needs
-
--- src/rings.rt:138:1
-returns-3 : tie.Need-returns-3
-returns-3 c = ?
+memory : {after : Memory} (c : tie.After-add) → let x = c .before .before .before .before .before .before .before .before .before .args in let e = c .before .before .before .before .before .given2 .given .0 .0 in
+    after ≡ addedMemory (x .mem .now) (c .before .before .state .result) e (x .report) → after ≡ addedMemory (x .mem .now) (stateOf (x .ring .now)) e (x .report)
+memory c q = let x = c .before .before .before .before .before .before .before .before .before .args in
+    q ∙ ap (λ (r : EventRing). addedMemory (x .mem .now) r (c .before .before .before .before .before .given2 .given .0 .0) (x .report)) (c .before .before .state .ensures)
 
 pub add-spec : {M : Type 1} → statement M
 add-spec =
     tie.close
     (tie.spec
-    given-requires
-    enum-known-given
-    enum-told
-    number-requires
-    returns
-    state-requires
-    add-requires
-    same-length
-    returns-2
-    put-requires
-    same-length-2
-    returns-3)
+    (λ c κs. search needs)
+    (λ c. search needs)
+    (λ c. search needs)
+    (λ c κs. search needs)
+    (λ c. let g = c .before .before .before in rw (← g .given .ensures, c .before .enum-told .given .1) (rw (c .before .enum-told .given .1) at (c .number .ensures), refl, refl))
+    (λ c κs. search needs)
+    (λ c κs. search needs)
+    (λ c. search needs)
+    (λ c. let a = c .before .before .before .before in rw (← a .before .before .before .before .before .before .before .given .ensures, a .before .before .before .before .before .given2 .given .1, ← came a, ne-eqb _ 0 (c .if1 .taken)) (refl, memory a (a .add .ensures .1), refl))
+    (λ c κs. search needs)
+    (λ c. search needs)
+    (λ c. let f = c .before .before .before in let a = f .before .before .before .before in rw (← a .before .before .before .before .before .before .before .given .ensures, a .before .before .before .before .before .given2 .given .1, ← came a, eq-eqb _ 0 (f .if1 .left)) (sym (f .if1 .left), memory a (a .add .ensures .1), c .put .ensures)))

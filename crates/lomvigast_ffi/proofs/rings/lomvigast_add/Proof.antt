@@ -1,147 +1,66 @@
+-- The usual case here, all else by `add`. Assumes nothing.
+use mathlib.Core.Path.{_≡_, refl, sym, ap, ap₂, _∙_}
+use mathlib.Core.Bool.{true}
+use mathlib.Core.List.{List, [], _∷_}
+use Prim.Native.Nat.{ℕ, _+_, _-_, _%_, _^_, _≤_, _<_}
+use native.Mathlib.Omega.{arith}
+use borrow.Author.Tests.{eqb-true}
+use lib.ListN.{length, getD}
+use Rattle.guest.specs.Memory.{inside, trbAt}
+use Rattle.guest.specs.Fields.{dword, lowOf, highOf}
+use Rattle.guest.specs.Answers.{numberAt, writeMemory}
+use Rattle.guest.proofs.Memory.{inside-le}
+use Rattle.guest.proofs.Tests.{yes, both}
+use Rattle.lomvigast_ffi.specs.Memory.{valueOf}
+use Rattle.lomvigast_ffi.specs.Rings.{plain}
+use Rattle.lomvigast_ffi.proofs.States.{numbers}
+use Rattle.lomvigast_ffi.proofs.Usual.{usual-add}
 use borrow.Author.Needs.{needs}
 use Rattle.lomvigast_ffi.proofs.rings.lomvigast_add.Statement.{statement}
 use Rattle.lomvigast_ffi.proofs.rings.lomvigast_add.Tie as tie
-use Rattle.lomvigast_ffi.proofs.rings.lomvigast_add.Reads as reads
-use Rattle.lomvigast_ffi.proofs.rings.lomvigast_add.Lts as lts
-use Rattle.guest.proofs.inside.Reads as inside-reads
-use Rattle.guest.proofs.whole.Reads as whole-reads
-use Rattle.guest.proofs.write_trb.Reads as write-trb-reads
-use Rattle.lomvigast_ffi.proofs.rings.add.Reads as add-reads
-use Rattle.lomvigast_ffi.proofs.rings.plain.Reads as plain-reads
-use Rattle.lomvigast_ffi.proofs.rings.step.Reads as step-reads
-use Rattle.words.proofs.event.bytes.Reads as bytes-reads
 
--- src/rings.rt:180:17
-element-copy-out-place : tie.Need-element-copy-out-place
-element-copy-out-place c = search needs
+-- the memory and the ring's words of the call, and what the tests said of them
+abbrev m : tie.Else2 → List ℕ
+m c = c .before .before .before .before .before .before .before .before .args .mem .now
 
--- src/rings.rt:181:10
-plain-requires : tie.Need-plain-requires
-plain-requires c κs = search needs
+abbrev ws : tie.Else2 → List ℕ
+ws c = c .before .before .before .before .before .before .before .before .args .ring .now
 
--- src/rings.rt:182:9
-add-requires : tie.Need-add-requires
-add-requires c κs = search needs
+tested : (c : tie.Else2) → (plain (ws c) ≡ true) × (c .before .before .before .before .before .before .before .before .args .report % 16 ≡ 0)
+tested c = let p = both _ _ (yes refl (c .before .before .before .if1 .left)) in (sym (c .before .before .before .before .plain .ensures) ∙ p .0, eqb-true _ _ (p .1))
 
--- src/rings.rt:182:9
-same-length : tie.Need-same-length
-same-length c = search needs
-
--- src/rings.rt:182:9
-returns : tie.Need-returns
-returns c = search needs
-
--- src/rings.rt:184:9
-inside-requires : tie.Need-inside-requires
-inside-requires c κs = search needs
-
--- src/rings.rt:185:9
-add-requires-2 : tie.Need-add-requires-2
-add-requires-2 c κs = search needs
-
--- src/rings.rt:185:9
-same-length-2 : tie.Need-same-length-2
-same-length-2 c = search needs
-
--- src/rings.rt:185:9
-returns-2 : tie.Need-returns-2
-returns-2 c = search needs
-
--- src/rings.rt:187:8
-add-if3 : tie.Need-add-if3
-add-if3 c = ?
-
--- src/rings.rt:188:9
-add-requires-3 : tie.Need-add-requires-3
-add-requires-3 c κs = search needs
-
--- src/rings.rt:188:9
-same-length-3 : tie.Need-same-length-3
-same-length-3 c = search needs
-
--- src/rings.rt:188:9
-returns-3 : tie.Need-returns-3
-returns-3 c = search needs
-
--- src/rings.rt:190:42
-element-copy-out-bytes : tie.Need-element-copy-out-bytes
-element-copy-out-bytes c = search needs
-
--- src/rings.rt:190:9
-bytes-requires : tie.Need-bytes-requires
-bytes-requires c κs = search needs
-
--- src/rings.rt:192:9
-add-requires-4 : tie.Need-add-requires-4
-add-requires-4 c κs = search needs
-
--- src/rings.rt:192:9
-same-length-4 : tie.Need-same-length-4
-same-length-4 c = search needs
-
--- src/rings.rt:192:9
-returns-4 : tie.Need-returns-4
-returns-4 c = search needs
-
--- src/rings.rt:194:21
-element-copy-out-remaining : tie.Need-element-copy-out-remaining
-element-copy-out-remaining c = search needs
-
--- src/rings.rt:194:21
-sub-remaining : tie.Need-sub-remaining
-sub-remaining c = ?
-
--- src/rings.rt:195:34
-whole-requires : tie.Need-whole-requires
-whole-requires c κs = search needs
-
--- src/rings.rt:195:5
-write-trb-requires : tie.Need-write-trb-requires
-write-trb-requires c κs = search needs
-
--- src/rings.rt:196:16
-add-step : tie.Need-add-step
-add-step c = ?
-
--- src/rings.rt:196:5
-step-requires : tie.Need-step-requires
-step-requires c κs = search needs
-
--- src/rings.rt:171:1
-same-length-5 : tie.Need-same-length-5
-same-length-5 c = search needs
-
--- src/rings.rt:171:1
-returns-5 : tie.Need-returns-5
-returns-5 c = ?
+within : (c : tie.Else2) → inside (m c) (getD (ws c) 1 0) 16 ≡ true
+within c = yes (c .before .inside .ensures) (c .if2 .left)
 
 pub lomvigast-add-spec : {M : Type 1} → statement M
 lomvigast-add-spec =
     tie.close
     (tie.spec
-    element-copy-out-place
-    plain-requires
-    add-requires
-    same-length
-    returns
-    inside-requires
-    add-requires-2
-    same-length-2
-    returns-2
-    add-if3
-    add-requires-3
-    same-length-3
-    returns-3
-    element-copy-out-bytes
-    bytes-requires
-    add-requires-4
-    same-length-4
-    returns-4
-    element-copy-out-remaining
-    sub-remaining
-    whole-requires
-    write-trb-requires
-    add-step
-    step-requires
-    same-length-5
-    returns-5)
+    (λ c. search needs)
+    (λ c κs. search needs)
+    (λ c κs. search needs)
+    (λ c. search needs)
+    (λ c. search needs)
+    (λ c κs. search needs)
+    (λ c κs. search needs)
+    (λ c. search needs)
+    (λ c. search needs)
+    (λ c. record { fits = omega (arith, inside-le (m c) (getD (ws c) 1 0) 16 (within c)) })
+    (λ c κs. search needs)
+    (λ c. search needs)
+    (λ c. search needs)
+    (λ c. search needs)
+    (λ c κs. search needs)
+    (λ c κs. search needs)
+    (λ c. search needs)
+    (λ c. search needs)
+    (λ c. search needs)
+    (λ c. let e = c .before .before .before .before .before .before in omega (arith, numbers (ws e) (tested e .0) .more))
+    (λ c κs. search needs)
+    (λ c κs. search needs)
+    (λ c. let e = c .before .before .before .before .before .before .before .before .before .before .before .before in record { fits = omega (arith, inside-le (m e) (getD (ws e) 1 0) 16 (within e)) })
+    (λ c κs. search needs)
+    (λ c. search needs)
+    (λ c. let w = c .before .before .before .before in let g = c .before .before .before .before .before .before .before .before in let b = c .before .before .before .before .before .before .before .before .before .before in let f = c .before .before .before .before .before .before .before .before .before .before .before .before in let e = f .before in
+    let q = usual-add (m e) (ws e) (tested e .0) (within e) (e .before .before .before .before .before .before .before .before .args .event .now) (e .before .before .before .before .before .before .before .before .args .report) (tested e .1) (f .if3 .left) (b .bytes .result) (b .bytes .ensures) (g .if4 .left) _ (w .write-trb .ensures .1 ∙ ap (writeMemory (m e) (getD (ws e) 1 0)) (w .before .whole .ensures)) in
+    (q .0, q .1, c .step .ensures ∙ q .2)))

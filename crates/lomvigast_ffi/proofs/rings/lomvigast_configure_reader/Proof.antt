@@ -1,32 +1,23 @@
+-- By what configure answered. Assumes nothing.
+use mathlib.Core.Path.{_≡_, refl, sym, ap, ap₂, _∙_}
+use borrow.Author.Tests.{eq-eqb, ne-eqb}
+use Rattle.event_ring.specs.Ring.{readerAt, readerConfigured}
+use Rattle.event_ring.specs.declared.EventRing.{EventRing}
+use Rattle.lomvigast_ffi.specs.Rings.{stateOf}
 use borrow.Author.Needs.{needs}
 use Rattle.lomvigast_ffi.proofs.rings.lomvigast_configure_reader.Statement.{statement}
 use Rattle.lomvigast_ffi.proofs.rings.lomvigast_configure_reader.Tie as tie
-use Rattle.lomvigast_ffi.proofs.rings.lomvigast_configure_reader.Reads as reads
-use Rattle.lomvigast_ffi.proofs.rings.lomvigast_configure_reader.Lts as lts
-use Rattle.event_ring.proofs.EventReader.configure.Reads as configure-reads
-use Rattle.lomvigast_ffi.proofs.rings.put.Reads as put-reads
-use Rattle.lomvigast_ffi.proofs.rings.state.Reads as state-reads
 
--- src/rings.rt:127:9
-state-requires : tie.Need-state-requires
-state-requires c κs = search needs
-
--- src/rings.rt:128:9
-configure-requires : tie.Need-configure-requires
-configure-requires c κs = search needs
-
--- src/rings.rt:130:9
-returns : tie.Need-returns
-returns c = ?
-
--- src/rings.rt:133:5
-put-requires : tie.Need-put-requires
-put-requires c κs = search needs
-
--- src/rings.rt:118:1
-returns-2 : tie.Need-returns-2
-returns-2 c = ?
+came : (c : tie.After-configure) → let x = c .before .before .before .before .args in c .configure .result ≡ readerConfigured (x .mem .now) (readerAt (stateOf (x .reader .now))) (x .table) (x .entries)
+came c = let x = c .before .before .before .before .args in
+    c .configure .ensures ∙ ap (λ (s : EventRing). readerConfigured (x .mem .now) (readerAt s) (x .table) (x .entries)) (c .before .state .ensures)
 
 pub lomvigast-configure-reader-spec : {M : Type 1} → statement M
 lomvigast-configure-reader-spec =
-    tie.close (tie.spec state-requires configure-requires returns put-requires returns-2)
+    tie.close
+    (tie.spec
+    (λ c κs. search needs)
+    (λ c κs. search needs)
+    (λ c. rw (← came (c .before .before), ne-eqb _ 0 (c .if1 .taken)) (refl, refl))
+    (λ c κs. search needs)
+    (λ c. let f = c .before .before .before in rw (← came (f .before .before), eq-eqb _ 0 (f .if1 .left)) (sym (f .if1 .left), c .put .ensures)))

@@ -1,101 +1,66 @@
+-- The usual case here, all else by `take`. Assumes nothing.
+use mathlib.Core.Path.{_≡_, refl, sym, ap, ap₂, _∙_}
+use mathlib.Core.Bool.{true}
+use mathlib.Core.List.{List, [], _∷_}
+use Prim.Native.Nat.{ℕ, _+_, _-_, _%_, _^_, _≤_, _<_}
+use native.Mathlib.Omega.{arith}
+use borrow.Author.Tests.{eqb-true}
+use lib.ListN.{length, getD}
+use Rattle.guest.specs.Memory.{inside, trbAt}
+use Rattle.guest.specs.Fields.{dword, lowOf, highOf}
+use Rattle.guest.specs.Answers.{numberAt, writeMemory}
+use Rattle.guest.proofs.Memory.{inside-le}
+use Rattle.guest.proofs.Tests.{yes, both}
+use Rattle.lomvigast_ffi.specs.Memory.{valueOf}
+use Rattle.lomvigast_ffi.specs.Rings.{plain}
+use Rattle.lomvigast_ffi.proofs.States.{numbers}
+use Rattle.lomvigast_ffi.proofs.Slots.{low-at, high-at, d3-at}
+use Rattle.lomvigast_ffi.proofs.Usual.{usual-nothing, usual-take}
 use borrow.Author.Needs.{needs}
 use Rattle.lomvigast_ffi.proofs.rings.lomvigast_take.Statement.{statement}
 use Rattle.lomvigast_ffi.proofs.rings.lomvigast_take.Tie as tie
-use Rattle.lomvigast_ffi.proofs.rings.lomvigast_take.Reads as reads
-use Rattle.lomvigast_ffi.proofs.rings.lomvigast_take.Lts as lts
-use Rattle.guest.proofs.inside.Reads as inside-reads
-use Rattle.lomvigast_ffi.proofs.memory.eight.Reads as eight-reads
-use Rattle.lomvigast_ffi.proofs.rings.plain.Reads as plain-reads
-use Rattle.lomvigast_ffi.proofs.rings.step.Reads as step-reads
-use Rattle.lomvigast_ffi.proofs.rings.take.Reads as take-reads
-use Rattle.std.proofs.num.wrapping_add_u64.Reads as wrapping-add-u64-reads
 
--- src/rings.rt:222:17
-element-copy-out-place : tie.Need-element-copy-out-place
-element-copy-out-place c = search needs
+-- the memory and the reader's words of the call, and what the tests said of them
+abbrev m : tie.Else2 → List ℕ
+m c = c .before .before .before .before .before .before .before .args .mem .now
 
--- src/rings.rt:223:9
-plain-requires : tie.Need-plain-requires
-plain-requires c κs = search needs
+abbrev ws : tie.Else2 → List ℕ
+ws c = c .before .before .before .before .before .before .before .args .reader .now
 
--- src/rings.rt:224:9
-take-requires : tie.Need-take-requires
-take-requires c κs = search needs
+usual : (c : tie.Else2) → plain (ws c) ≡ true
+usual c = yes (c .before .before .before .plain .ensures) (c .before .before .if1 .left)
 
--- src/rings.rt:224:9
-returns : tie.Need-returns
-returns c = search needs
+within : (c : tie.Else2) → inside (m c) (getD (ws c) 1 0) 16 ≡ true
+within c = yes (c .before .inside .ensures) (c .if2 .left)
 
--- src/rings.rt:226:9
-inside-requires : tie.Need-inside-requires
-inside-requires c κs = search needs
-
--- src/rings.rt:227:9
-take-requires-2 : tie.Need-take-requires-2
-take-requires-2 c κs = search needs
-
--- src/rings.rt:227:9
-returns-2 : tie.Need-returns-2
-returns-2 c = search needs
-
--- src/rings.rt:229:42
-wrapping-add-u64-requires : tie.Need-wrapping-add-u64-requires
-wrapping-add-u64-requires c κs = search needs
-
--- src/rings.rt:229:9
-eight-requires : tie.Need-eight-requires
-eight-requires c κs = search needs
-
--- src/rings.rt:230:36
-element-copy-out-if3 : tie.Need-element-copy-out-if3
-element-copy-out-if3 c = search needs
-
--- src/rings.rt:231:9
-returns-3 : tie.Need-returns-3
-returns-3 c = search needs
-
--- src/rings.rt:233:21
-element-copy-out-remaining : tie.Need-element-copy-out-remaining
-element-copy-out-remaining c = search needs
-
--- src/rings.rt:233:21
-sub-remaining : tie.Need-sub-remaining
-sub-remaining c = ?
-
--- src/rings.rt:234:13
-eight-requires-2 : tie.Need-eight-requires-2
-eight-requires-2 c κs = search needs
-
--- src/rings.rt:235:18
-add-step : tie.Need-add-step
-add-step c = ?
-
--- src/rings.rt:235:5
-step-requires : tie.Need-step-requires
-step-requires c κs = search needs
-
--- src/rings.rt:220:1
-returns-4 : tie.Need-returns-4
-returns-4 c = search needs
+d3-is : (c : tie.After-four) → let e = c .before .before in c .four .result ≡ dword (trbAt (m e) (getD (ws e) 1 0)) 3
+d3-is c = let e = c .before .before in
+    c .four .ensures ∙ ap (λ (p : ℕ). valueOf (numberAt (m e) p 4)) (c .before .wrapping-add-u64 .ensures) ∙ d3-at (m e) (getD (ws e) 1 0) (within e)
 
 pub lomvigast-take-spec : {M : Type 1} → statement M
 lomvigast-take-spec =
     tie.close
     (tie.spec
-    element-copy-out-place
-    plain-requires
-    take-requires
-    returns
-    inside-requires
-    take-requires-2
-    returns-2
-    wrapping-add-u64-requires
-    eight-requires
-    element-copy-out-if3
-    returns-3
-    element-copy-out-remaining
-    sub-remaining
-    eight-requires-2
-    add-step
-    step-requires
-    returns-4)
+    (λ c. search needs)
+    (λ c κs. search needs)
+    (λ c κs. search needs)
+    (λ c. search needs)
+    (λ c κs. search needs)
+    (λ c κs. search needs)
+    (λ c. search needs)
+    (λ c κs. search needs)
+    (λ c κs. search needs)
+    (λ c. search needs)
+    (λ c. let f = c .before .before in let e = f .before .before in usual-nothing (m e) (ws e) (usual e) (within e) (λ q. c .if3 .taken (ap (λ (n : ℕ). n % 2) (d3-is f) ∙ q)) (e .before .before .before .before .before .before .before .args .out .now))
+    (λ c. search needs)
+    (λ c. let e = c .before .before .before .before .before in omega (arith, numbers (ws e) (usual e) .more))
+    (λ c κs. search needs)
+    (λ c κs. search needs)
+    (λ c κs. search needs)
+    (λ c. let e = c .before .before .before .before .before .before .before .before .before .before in record { fits = omega (arith, inside-le (m e) (getD (ws e) 1 0) 16 (within e)) })
+    (λ c κs. search needs)
+    (λ c. let h = c .before .before .before .before in let y = c .before .before .before .before .before .before .before in let f = y .before .before in let e = f .before .before in
+    let q = usual-take (m e) (ws e) (usual e) (within e) (ap (λ (n : ℕ). n % 2) (sym (d3-is f)) ∙ y .if3 .left) (e .before .before .before .before .before .before .before .args .out .now) in
+    let low = c .before .before .before .eight2 .ensures ∙ low-at (m e) (getD (ws e) 1 0) (within e) in
+    let high = h .eight .ensures ∙ ap (λ (p : ℕ). valueOf (numberAt (m e) p 8)) (h .before .wrapping-add-u642 .ensures) ∙ high-at (m e) (getD (ws e) 1 0) (within e) in
+    (q .0, c .step .ensures ∙ q .1, ap₂ (λ (a b : ℕ). a ∷ b ∷ []) low high ∙ q .2)))
