@@ -76,6 +76,9 @@ pub struct CNumber {
     pub refusal: u8,
 }
 
+/// A high half below this is a refusal's number. No event has one: its type stands above.
+pub const REFUSED_BELOW: u64 = 256;
+
 /// What `take` answers where there is no event. No refusal has this number.
 pub const NOTHING: u8 = 255;
 
@@ -168,7 +171,8 @@ mod raw {
 
 pub use raw::{
     lomvigast_advance as advance, lomvigast_class_of as class_of, lomvigast_code_of as code_of,
-    lomvigast_reset as reset, lomvigast_set_place as set_place,
+    lomvigast_event_bytes as event_bytes, lomvigast_reset as reset,
+    lomvigast_set_place as set_place,
 };
 
 #[inline]
@@ -220,16 +224,6 @@ pub fn parse_event(trb: &RawTrbBuffer) -> Result<EventTrb, (u8, u8)> {
             let [number, trb_type] = refusal.to_le_bytes();
             Err((number, trb_type))
         }
-    }
-}
-
-/// The event's bytes, or a refusal's number.
-#[inline]
-pub fn event_bytes(event: &EventTrb, cycle: bool) -> Result<RawTrbBuffer, u8> {
-    let trb = raw::lomvigast_event_bytes(event, cycle);
-    match u8::try_from(trb.high) {
-        Err(_) => Ok(trb.into()),
-        Ok(refusal) => Err(refusal),
     }
 }
 

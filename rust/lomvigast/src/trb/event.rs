@@ -65,7 +65,12 @@ impl EventTrb {
     /// ```
     #[inline]
     pub fn to_bytes(&self, cycle_bit: bool) -> Result<RawTrbBuffer, Refusal> {
-        ffi::event_bytes(self, cycle_bit).map_err(|number| Refusal::of(number, 0))
+        let trb = ffi::event_bytes(self, cycle_bit);
+        // Left early, and not matched: so the compiler keeps the bytes together.
+        if trb.high < ffi::REFUSED_BELOW {
+            return Err(Refusal::of(trb.high as u8, 0));
+        }
+        Ok(trb.into())
     }
 
     /// The event that was written as these bytes, with either cycle bit; refused are, in this order, other types (10), a code
