@@ -13,6 +13,8 @@ use std::mem::MaybeUninit;
 mod exports;
 #[cfg(test)]
 mod layout;
+#[cfg(test)]
+mod memcheck;
 
 /// A TRB's two halves as little-endian numbers; or, where an event is refused, 0 and the refusal's number.
 #[repr(C)]

@@ -218,6 +218,15 @@ fn the_three_lists_of_exports_are_the_same() {
     assert_eq!(rust, c);
 }
 
+#[test]
+fn every_export_is_called_by_the_tests_of_the_layouts() {
+    let tests = include_str!("layout.rs");
+    for function in in_rust() {
+        let call = function.name.replacen("lomvigast_", "", 1) + "(";
+        assert!(tests.contains(&call), "{call}");
+    }
+}
+
 /// The fields of a record, with their types: `pub a: A,` or `A a;`.
 fn fields(text: &str, start: &str, end: char) -> Vec<(String, String)> {
     let (_, body) = text.split_once(start).unwrap_or_else(|| panic!("{start}"));
