@@ -4,9 +4,10 @@
 //! it. That the layouts are those of the Rattle side is tested in `layout`, that the lists of exports are in `exports`.
 
 use crate::types::{
-    Chase, Class, CommandTrbVariant, CompletionCode, EventTrb, LinkedState, RawTrbBuffer, State,
-    TransferTrbVariant,
+    Chase, Class, CommandTrbVariant, CompletionCode, EventTrb, LinkedState,
+    PortStatusChangeEventTrbData, RawTrbBuffer, State, TransferTrbVariant, Unrecognized,
 };
+use crate::Refusal;
 use std::mem::MaybeUninit;
 
 #[cfg(test)]
@@ -95,11 +96,7 @@ mod raw {
         pub safe fn lomvigast_set_place(ring: &mut LinkedState, place: u64, cycle: bool);
         pub safe fn lomvigast_reset(ring: &mut State);
         pub safe fn lomvigast_event_bytes(event: &EventTrb, cycle: bool) -> CTrb;
-        pub safe fn lomvigast_parse_event(
-            out: &mut MaybeUninit<EventTrb>,
-            low: u64,
-            high: u64,
-        ) -> u16;
+        pub safe fn lomvigast_parse_event(out: &mut EventTrb, low: u64, high: u64) -> u16;
         pub safe fn lomvigast_parse_command(
             out: &mut MaybeUninit<CommandTrbVariant>,
             low: u64,
@@ -213,20 +210,31 @@ pub fn parse_transfer(trb: &RawTrbBuffer) -> TransferTrbVariant {
     unsafe { out.assume_init() }
 }
 
-/// The event, or a refusal's number and the type beside it.
 #[inline]
-pub fn parse_event(trb: &RawTrbBuffer) -> Result<EventTrb, (u8, u8)> {
+pub fn parse_event(trb: &RawTrbBuffer) -> Result<EventTrb, Unrecognized> {
     let CTrb { low, high } = trb.into();
-    let mut out = MaybeUninit::uninit();
-    match raw::lomvigast_parse_event(&mut out, low, high) {
-        // SAFETY: where it answers 0 the export has written a tag and every field of its variant: `putEvent` of
-        // crates/words/specs/Events.antt.
-        0 => Ok(unsafe { out.assume_init() }),
-        refusal => {
-            let [number, trb_type] = refusal.to_le_bytes();
-            Err((number, trb_type))
+    // An event that is lent in the answer itself, so that none is copied there.
+    let mut answer = Ok(EventTrb::PortStatusChange(PortStatusChangeEventTrbData {
+        port_id: 0,
+    }));
+    if let Ok(event) = &mut answer {
+        let refused = raw::lomvigast_parse_event(event, low, high);
+        if refused != 0 {
+            refuse(&mut answer, CTrb { low, high }, refused);
         }
     }
+    answer
+}
+
+/// Tells a refusal's number, and the type above it. Off the way, as most bytes are not refused.
+#[cold]
+#[inline(never)]
+fn refuse(answer: &mut Result<EventTrb, Unrecognized>, trb: CTrb, refused: u16) {
+    let [number, trb_type] = refused.to_le_bytes();
+    *answer = Err(Unrecognized {
+        buffer: trb.into(),
+        refusal: Refusal::of(number, trb_type),
+    });
 }
 
 /// A function that reads lent memory.

@@ -169,11 +169,7 @@ const TYPES: [(&str, &str, &str); 24] = [
         "&mut [u64; 2]",
     ),
     ("const union lomvigast_event *", "&EventTrb", "&[u64; 3]"),
-    (
-        "union lomvigast_event *",
-        "&mut MaybeUninit<EventTrb>",
-        "&mut [u64; 3]",
-    ),
+    ("union lomvigast_event *", "&mut EventTrb", "&mut [u64; 3]"),
     (
         "union lomvigast_command *",
         "&mut MaybeUninit<CommandTrbVariant>",

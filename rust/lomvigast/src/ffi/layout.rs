@@ -275,7 +275,11 @@ fn an_event_crosses_both_ways() {
         assert_eq!(event_bytes(&event, true), CTrb::from(&bytes));
         assert_eq!(parse_event(&bytes), Ok(event));
     }
-    assert_eq!(parse_event(&TRB), Err((10, 3)));
+    let refused = Unrecognized {
+        buffer: TRB,
+        refusal: Refusal::Type(3),
+    };
+    assert_eq!(parse_event(&TRB), Err(refused));
     let long = EventTrb::new_transfer_event_trb(0, 1 << 24, CompletionCode::Success, true, 1, 1);
     assert_eq!(event_bytes(&long, true), CTrb { low: 0, high: 8 });
 }

@@ -77,9 +77,6 @@ impl EventTrb {
     /// that the event cannot hold (12) and bits that no event of its type has (11).
     #[inline]
     pub fn parse(bytes: RawTrbBuffer) -> Result<Self, Unrecognized> {
-        ffi::parse_event(&bytes).map_err(|(number, trb_type)| Unrecognized {
-            buffer: bytes,
-            refusal: Refusal::of(number, trb_type),
-        })
+        ffi::parse_event(&bytes)
     }
 }
