@@ -89,8 +89,10 @@ mod raw {
     use super::*;
 
     // SAFETY: the archives have these functions with these parameters (tests in `exports`), and none of them has a condition on
-    // its arguments beyond what Rust's types say. An event and an answer are lent as what they are, so that no reference is
-    // made to words of which some bytes are padding. Functions that take a slice's parts are `unsafe`, the rest `safe`.
+    // its arguments beyond what Rust's types say. What they answer, and what they leave in an event or a state that they are
+    // lent, is a value of its type: their contracts say which. An event and an answer are lent as what they are, so that no
+    // reference is made to words of which some bytes are padding. Functions that take a slice's parts are `unsafe`, the rest
+    // `safe`.
     unsafe extern "C" {
         pub safe fn lomvigast_advance(ring: &mut LinkedState);
         pub safe fn lomvigast_set_place(ring: &mut LinkedState, place: u64, cycle: bool);
