@@ -305,6 +305,24 @@ fn refused_bytes_cross() {
     );
 }
 
+/// An answer is looked at whole, so that memcheck tells of a field that was not written.
+#[test]
+fn every_type_is_read_whole() {
+    let (mut commands, mut transfers) = (0, 0);
+    for trb_type in 0..64 {
+        let mut trb = TRB;
+        (trb[0], trb[13]) = (0, trb_type << 2);
+        let (command, transfer) = (parse_command(&trb), parse_transfer(&trb));
+        assert_eq!(
+            (command, transfer),
+            (parse_command(&trb), parse_transfer(&trb))
+        );
+        commands += u32::from(!matches!(command, CommandTrbVariant::Unrecognized(..)));
+        transfers += u32::from(!matches!(transfer, TransferTrbVariant::Unrecognized(..)));
+    }
+    assert_eq!((commands, transfers), (11, 7));
+}
+
 #[test]
 fn a_link_crosses() {
     let link =
