@@ -191,8 +191,8 @@ pub extern "C" fn lomvigast_add(
     if trb.high < 0x100 {
         return add(mem, ring, event, report);
     }
-    let remaining = ring[REMAINING] - 1;
     guest::write_trb(mem, place, guest::whole(trb.low, trb.high));
+    let remaining = ring[REMAINING] - 1;
     step(ring, place + 16, remaining);
     0
 }

@@ -54,13 +54,13 @@ lomvigast-add-spec =
     (λ c κs. search needs)
     (λ c. search needs)
     (λ c. search needs)
+    (λ c κs. search needs)
+    (λ c κs. search needs)
     (λ c. search needs)
-    (λ c. let e = c .before .before .before .before .before .before in omega (arith, numbers (ws e) (tested e .0) .more))
-    (λ c κs. search needs)
-    (λ c κs. search needs)
+    (λ c. let e = c .before .before .before .before .before .before .before .before .before .before .before in omega (arith, numbers (ws e) (tested e .0) .more))
     (λ c. let e = c .before .before .before .before .before .before .before .before .before .before .before .before in record { fits = omega (arith, inside-le (m e) (getD (ws e) 1 0) 16 (within e)) })
     (λ c κs. search needs)
     (λ c. search needs)
-    (λ c. let w = c .before .before .before .before in let g = c .before .before .before .before .before .before .before .before in let b = c .before .before .before .before .before .before .before .before .before .before in let f = c .before .before .before .before .before .before .before .before .before .before .before .before in let e = f .before in
+    (λ c. let w = c .before .before .before .before .before in let g = c .before .before .before .before .before .before .before .before in let b = c .before .before .before .before .before .before .before .before .before .before in let f = c .before .before .before .before .before .before .before .before .before .before .before .before in let e = f .before in
     let q = usual-add (m e) (ws e) (tested e .0) (within e) (e .before .before .before .before .before .before .before .before .args .event .now) (e .before .before .before .before .before .before .before .before .args .report) (tested e .1) (f .if3 .left) (b .bytes .result) (b .bytes .ensures) (g .if4 .left) _ (w .write-trb .ensures .1 ∙ ap (writeMemory (m e) (getD (ws e) 1 0)) (w .before .whole .ensures)) in
     (q .0, q .1, c .step .ensures ∙ q .2)))
