@@ -309,8 +309,8 @@ void lomvigast_parse_transfer(union lomvigast_transfer *out, uint64_t low, uint6
 /* 0, and the event in `out`; or a refusal's number (10, 12 or 11, in this order), beside 10 with the type shifted left by 8. */
 uint16_t lomvigast_parse_event(union lomvigast_event *out, uint64_t low, uint64_t high);
 
-/* The event's TRB with this cycle bit; or 0 and, in `high`, a refusal's number, which is below LOMVIGAST_REFUSED_BELOW. */
-struct lomvigast_trb lomvigast_event_bytes(const union lomvigast_event *event, bool cycle);
+/* The event's TRB, whose cycle bit is bit 0 of `cycle`; or 0 and, in `high`, a refusal's number, below LOMVIGAST_REFUSED_BELOW. */
+struct lomvigast_trb lomvigast_event_bytes(const union lomvigast_event *event, uint64_t cycle);
 
 /* The Link, if it is one. */
 struct lomvigast_link lomvigast_parse_link(uint64_t low, uint64_t high);

@@ -25,7 +25,7 @@ pub struct CTrb {
     pub high: u64,
 }
 
-fn listed(code: u64) -> bool
+fn listed(code: u32) -> bool
     ensures { λ r. ⌜ r ≡ isListed (codeOf code) ⌝ }
 {
     match code {
@@ -45,14 +45,13 @@ fn refused(number: u8) -> CTrb
     }
 }
 
-// The pointer, and two dwords, of which d2 has the code in its top byte.
-fn joined(pointer: u64, length: u64, code: u64, d3: u64) -> CTrb
-    requires { ⌜ (length < 2 ^ 24) × (code < 2 ^ 8) × (d3 < 2 ^ 32) ⌝ }
-    ensures { λ r. ⌜ (r ≡ record { low = pointer; high = length + code * 2 ^ 24 + d3 * 2 ^ 32 }) × (pointer < 2 ^ 64) ⌝ }
+// The pointer, and two dwords.
+fn joined(pointer: u64, d2: u32, d3: u32) -> CTrb
+    ensures { λ r. ⌜ (r ≡ record { low = pointer; high = d2 + d3 * 2 ^ 32 }) × (pointer < 2 ^ 64) ⌝ }
 {
     CTrb {
         low: pointer,
-        high: length + code * 0x100_0000 + d3 * 0x1_0000_0000,
+        high: (d2 as u64) + (d3 as u64) * 0x1_0000_0000,
     }
 }
 
@@ -60,23 +59,22 @@ fn transfer_written(event: &[u64; 3], cycle: u64) -> CTrb
     ensures { λ r. ⌜ r ≡ written (bytesFrom (coded (codeIn (now (event .entry))) (transferIn (now (event .entry)))) (eqb (cycle % 2) 1)) ⌝ }
 {
     let w = event[2];
-    let code = w / 0x1_0000_0000 % 0x100;
+    let code = (w / 0x1_0000_0000 % 0x100) as u32;
     if !listed(code) {
         return refused(refusal::CODE);
     }
-    let length = w % 0x1_0000_0000;
+    let length = (w % 0x1_0000_0000) as u32;
     if 0x100_0000 <= length {
         return refused(refusal::EVENT);
     }
     joined(
         event[1],
-        length,
-        code,
-        cycle % 2
-            + w / 0x100_0000_0000 % 2 * 4
+        length + code * 0x100_0000,
+        (cycle % 2) as u32
+            + (w / 0x100_0000_0000 % 2) as u32 * 4
             + 0x8000
-            + w / 0x1_0000_0000_0000 % 0x100 * 0x1_0000
-            + w / 0x100_0000_0000_0000 % 0x100 * 0x100_0000,
+            + (w / 0x1_0000_0000_0000 % 0x100) as u32 * 0x1_0000
+            + (w / 0x100_0000_0000_0000 % 0x100) as u32 * 0x100_0000,
     )
 }
 
@@ -84,7 +82,7 @@ fn command_completion_written(event: &[u64; 3], cycle: u64) -> CTrb
     ensures { λ r. ⌜ r ≡ written (bytesFrom (coded (codeIn (now (event .entry))) (commandCompletionIn (now (event .entry)))) (eqb (cycle % 2) 1)) ⌝ }
 {
     let w = event[2];
-    let code = w / 0x1_0000_0000 % 0x100;
+    let code = (w / 0x1_0000_0000 % 0x100) as u32;
     if !listed(code) {
         return refused(refusal::CODE);
     }
@@ -92,15 +90,14 @@ fn command_completion_written(event: &[u64; 3], cycle: u64) -> CTrb
     if pointer % 16 != 0 {
         return refused(refusal::EVENT);
     }
-    let length = w % 0x1_0000_0000;
+    let length = (w % 0x1_0000_0000) as u32;
     if 0x100_0000 <= length {
         return refused(refusal::EVENT);
     }
     joined(
         pointer,
-        length,
-        code,
-        cycle % 2 + 0x8400 + w / 0x100_0000_0000 % 0x100 * 0x100_0000,
+        length + code * 0x100_0000,
+        (cycle % 2) as u32 + 0x8400 + (w / 0x100_0000_0000 % 0x100) as u32 * 0x100_0000,
     )
 }
 
@@ -113,15 +110,17 @@ fn port_status_change_written(event: &[u64; 3], cycle: u64) -> CTrb
     }
 }
 
-// The TRB of an event with the cycle bit that `cycle` has in bit 0.
+// The TRB of an event with the cycle bit that `cycle` has in bit 0. Most events are Transfer Events: their test stands first.
 pub fn bytes(event: &[u64; 3], cycle: u64) -> CTrb
     ensures { λ r. ⌜ r ≡ written (bytesFrom (eventIn (now (event .entry))) (eqb (cycle % 2) 1)) ⌝ }
 {
+    if event[0] % 0x100 == (trb_types::TRANSFER_EVENT as u64) {
+        return transfer_written(event, cycle);
+    }
     let trb_type = (event[0] % 0x100) as u8;
     match trb_type {
-        trb_types::TRANSFER_EVENT => transfer_written(event, cycle),
-        trb_types::COMMAND_COMPLETION_EVENT => command_completion_written(event, cycle),
         trb_types::PORT_STATUS_CHANGE_EVENT => port_status_change_written(event, cycle),
+        trb_types::COMMAND_COMPLETION_EVENT => command_completion_written(event, cycle),
         _ => refused(refusal::TYPE),
     }
 }
@@ -134,7 +133,7 @@ fn transfer_read(out: &mut [u64; 3], low: u64, high: u64) -> u16
     let d2 = high % 0x1_0000_0000;
     let d3 = high / 0x1_0000_0000 % 0x1_0000_0000;
     let code = d2 / 0x100_0000 % 0x100;
-    if !listed(code) {
+    if !listed(code as u32) {
         return refusal::CODE as u16;
     }
     if !((d3 / 2 % 2 == 0) & (d3 / 8 % 0x80 == 0)) {
@@ -159,7 +158,7 @@ fn command_completion_read(out: &mut [u64; 3], low: u64, high: u64) -> u16
     let d2 = high % 0x1_0000_0000;
     let d3 = high / 0x1_0000_0000 % 0x1_0000_0000;
     let code = d2 / 0x100_0000 % 0x100;
-    if !listed(code) {
+    if !listed(code as u32) {
         return refusal::CODE as u16;
     }
     if !((low % 0x10 == 0) & (d3 / 2 % 0x200 == 0) & (d3 / 0x1_0000 % 0x100 == 0)) {

@@ -97,7 +97,7 @@ mod raw {
         pub safe fn lomvigast_advance(ring: &mut LinkedState);
         pub safe fn lomvigast_set_place(ring: &mut LinkedState, place: u64, cycle: bool);
         pub safe fn lomvigast_reset(ring: &mut State);
-        pub safe fn lomvigast_event_bytes(event: &EventTrb, cycle: bool) -> CTrb;
+        pub safe fn lomvigast_event_bytes(event: &EventTrb, cycle: u64) -> CTrb;
         pub safe fn lomvigast_parse_event(out: &mut EventTrb, low: u64, high: u64) -> u16;
         pub safe fn lomvigast_parse_command(
             out: &mut MaybeUninit<CommandTrbVariant>,

@@ -272,7 +272,7 @@ fn an_event_crosses_both_ways() {
         ),
     ];
     for (event, bytes) in written {
-        assert_eq!(event_bytes(&event, true), CTrb::from(&bytes));
+        assert_eq!(event_bytes(&event, 1), CTrb::from(&bytes));
         assert_eq!(parse_event(&bytes), Ok(event));
     }
     let refused = Unrecognized {
@@ -281,7 +281,7 @@ fn an_event_crosses_both_ways() {
     };
     assert_eq!(parse_event(&TRB), Err(refused));
     let long = EventTrb::new_transfer_event_trb(0, 1 << 24, CompletionCode::Success, true, 1, 1);
-    assert_eq!(event_bytes(&long, true), CTrb { low: 0, high: 8 });
+    assert_eq!(event_bytes(&long, 1), CTrb { low: 0, high: 8 });
 }
 
 #[test]

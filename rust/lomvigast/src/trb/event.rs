@@ -65,7 +65,7 @@ impl EventTrb {
     /// ```
     #[inline]
     pub fn to_bytes(&self, cycle_bit: bool) -> Result<RawTrbBuffer, Refusal> {
-        let trb = ffi::event_bytes(self, cycle_bit);
+        let trb = ffi::event_bytes(self, cycle_bit.into());
         // Left early, and not matched: so the compiler keeps the bytes together.
         if trb.high < ffi::REFUSED_BELOW {
             return Err(Refusal::of(trb.high as u8, 0));

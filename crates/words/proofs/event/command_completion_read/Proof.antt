@@ -11,6 +11,7 @@ pub command-completion-read-spec : {M : Type 1} → statement M
 command-completion-read-spec =
     tie.close
     (tie.spec
+    (λ c. search needs)
     (λ c κs. search needs)
     (λ c. search needs)
     (λ c. let x = c .before .before .args in rw (command-12 (x .low) (x .high) (no (c .before .listed .ensures) (c .if1 .taken))) (refl, refl))

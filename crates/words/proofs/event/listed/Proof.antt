@@ -1,6 +1,7 @@
 -- By the ranges of the match. Assumes nothing.
 use native.Mathlib.Omega.{arith}
 use Rattle.words.proofs.Listed.{is-listed, is-gap, is-above}
+use borrow.Author.Needs.{needs}
 use Rattle.words.proofs.event.listed.Statement.{statement}
 use Rattle.words.proofs.event.listed.Tie as tie
 

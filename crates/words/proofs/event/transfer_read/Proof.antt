@@ -11,6 +11,7 @@ pub transfer-read-spec : {M : Type 1} → statement M
 transfer-read-spec =
     tie.close
     (tie.spec
+    (λ c. search needs)
     (λ c κs. search needs)
     (λ c. search needs)
     (λ c. let x = c .before .before .args in rw (transfer-12 (x .low) (x .high) (no (c .before .listed .ensures) (c .if1 .taken))) (refl, refl))
