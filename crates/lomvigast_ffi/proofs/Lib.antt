@@ -2,3 +2,4 @@ pub mod Slots
 pub mod States
 pub mod Usual
 pub mod Links
+pub mod Back
