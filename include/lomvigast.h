@@ -2,8 +2,10 @@
  * The proved ring core over the C calling convention: all that liblomvigast_ffi.a and libtrb_ffi.a export.
  *
  * No argument is outside a contract: a call answers, or refuses with a number (enum lomvigast_refusal), and a refused call has
- * changed no byte of guest memory, no ring and none of the words that it was lent for an answer. Nothing allocates, nothing is
- * kept between calls, and there is no global state: calls on different rings may run at the same time.
+ * changed no byte of guest memory and no ring. What it was lent for an answer is as it was, and so holds nothing to go by; only
+ * lomvigast_parse_command and lomvigast_parse_transfer tell a refusal there, as `unrecognized`. Nothing allocates, nothing is
+ * kept between calls, and there is no global state: calls may run at the same time where what they are lent is apart, or only
+ * read by all of them.
  *
  * Guest memory is lent for one call as `mem` and `len`: `len` bytes, of which the first has guest address 0. Nobody may write to
  * it during the call (the proofs are about memory that stands still), and where a call is given `uint8_t *mem` nobody may read
@@ -266,7 +268,8 @@ struct lomvigast_chase {
 };
 
 /* The state of an event ring, or of its reader: a word for each field, so that a new field changes no signature. A caller sets
- * none of them but by lomvigast_reset and lomvigast_configure, or to what it saved; other values are refused with 4. */
+ * none of them but by lomvigast_reset, lomvigast_configure and lomvigast_configure_reader, or to what it saved: values outside a
+ * ring's limits are refused with 4, and others are believed. */
 struct lomvigast_event_ring {
     uint64_t table;     /* the segment table's base */
     uint64_t place;     /* the present slot; of a reader, what the driver reports */
@@ -306,7 +309,8 @@ void lomvigast_parse_command(union lomvigast_command *out, uint64_t low, uint64_
 /* The TRB of a transfer ring, or `unrecognized`. */
 void lomvigast_parse_transfer(union lomvigast_transfer *out, uint64_t low, uint64_t high);
 
-/* 0, and the event in `out`; or a refusal's number (10, 12 or 11, in this order), beside 10 with the type shifted left by 8. */
+/* 0, and the event in `out`; or a refusal's number (10, 12 or 11, in this order), beside 10 with the type shifted left by 8, and
+ * `out` is as it was. */
 uint16_t lomvigast_parse_event(union lomvigast_event *out, uint64_t low, uint64_t high);
 
 /* The event's TRB, whose cycle bit is bit 0 of `cycle`; or 0 and, in `high`, a refusal's number, below LOMVIGAST_REFUSED_BELOW. */
@@ -344,7 +348,7 @@ struct lomvigast_number lomvigast_read2(const uint8_t *mem, size_t len, uint64_t
 struct lomvigast_number lomvigast_read4(const uint8_t *mem, size_t len, uint64_t address);
 struct lomvigast_number lomvigast_read8(const uint8_t *mem, size_t len, uint64_t address);
 
-/* 0, and the TRB at `address` in `out`; or 1. */
+/* 0, and the TRB at `address` in `out`; or 1, and `out` is as it was. */
 uint8_t lomvigast_read_trb(const uint8_t *mem, size_t len, uint64_t address, struct lomvigast_trb *out);
 
 /* Writes a TRB to `address`, all of it or nothing: 0, or 1. */
@@ -374,7 +378,8 @@ uint8_t lomvigast_configure_reader(const uint8_t *mem, size_t len, struct lomvig
  * the driver has reported events as taken, ERDP with its low four bits cleared. 0; or 10, 12, 8, 4, 6, 1, 5 or 7, in this order. */
 uint8_t lomvigast_add(uint8_t *mem, size_t len, struct lomvigast_event_ring *ring, const union lomvigast_event *event, uint64_t report);
 
-/* Takes the next event: 0, and its TRB in `out`; LOMVIGAST_NOTHING if the slot is stale; or 4, 1 or 5, in this order. */
+/* Takes the next event: 0, and its TRB in `out`; LOMVIGAST_NOTHING if the slot is stale; or 4, 1 or 5, in this order. `out` is as
+ * it was unless the answer is 0: after another it may still hold the event before. */
 uint8_t lomvigast_take(const uint8_t *mem, size_t len, struct lomvigast_event_ring *reader, struct lomvigast_trb *out);
 
 #ifdef __cplusplus

@@ -3,3 +3,4 @@ pub mod States
 pub mod Usual
 pub mod Links
 pub mod Back
+pub mod Unmoved

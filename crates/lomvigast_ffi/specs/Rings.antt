@@ -1,5 +1,5 @@
--- The event ring and its reader by words: the state is seven of them, a field each. A new field is a word more, here and in RING of
--- src/rings.rt.
+-- The event ring and its reader by words: the state is seven of them, a field each. A new field is a word more, here and in `CEventRing`
+-- of src/rings.rt.
 use Prim.Native.Nat.{ℕ, _%_, _^_}
 use mathlib.Core.Bool.{Bool, cond, _&&_}
 use mathlib.Core.List.{List, [], _∷_}

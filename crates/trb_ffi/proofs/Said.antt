@@ -17,7 +17,10 @@ use Rattle.trb.specs.declared.transfer.TransferTrbVariant.{TransferTrbVariant}
 use Rattle.trb.proofs.Pack.{cut}
 use Rattle.words.proofs.Back.{bytesIn, numbersAt, saidBy, said-by, read, nth, word, bit-lt}
 use Rattle.trb_ffi.specs.Commands as command
+use Rattle.trb.specs.declared.link.LinkOrOther.{LinkOrOther}
 use Rattle.trb_ffi.specs.Transfers as transfer
+use Rattle.trb_ffi.specs.Parts.{flatLink}
+use Rattle.trb_ffi.specs.declared.parts.CLink.{CLink}
 
 -- ---- words of two bytes, and of three
 
@@ -218,3 +221,23 @@ module _ (low high : ℕ) (l : low < 2 ^ 64) (h : high < 2 ^ 64) (a b c : ℕ) w
     pub transfer-raw : (e : TrbParseError) → TransferTyped (TransferTrbVariant.Unrecognized e)
         → rawIn (transfer.put (TransferTrbVariant.Unrecognized e) low high four) ≡ low ∷ high ∷ []
     transfer-raw e y = refused-raw (d ∷ []) (e .number) (e .«trb_type») (y .0) (y .1)
+
+-- ---- a Link, or another TRB
+
+abbrev pub linkIn : CLink → LinkOrOther
+linkIn l =
+    when (l .link) (
+    LinkOrOther.Link (
+    record {
+      «ring_segment_pointer» = l .pointer;
+      «pointer_bits_cleared» = l .cleared;
+      «toggle_cycle» = l .toggle;
+      «interrupt_on_completion» = l .completion;
+    }
+    )
+    ) or
+    LinkOrOther.Other
+
+pub link-back : (l : LinkOrOther) → linkIn (flatLink l) ≡ l
+link-back (LinkOrOther.Link l) = refl
+link-back LinkOrOther.Other = refl

@@ -66,6 +66,15 @@ static void e1_e2_e3(void)
     CHECK(read.command_completion.command_completion_parameter == 0);
     CHECK(read.command_completion.completion_code == 1 && read.command_completion.slot_id == 1);
 
+    /* E1 has 1 in two fields and 0 in a third: once more with a value of its own in each. */
+    static const uint8_t own[16] = {0, 0x10, [8] = 3, 4, 5, 13, 1, 33 << 2, 0, 2};
+    event.command_completion = (struct lomvigast_command_completion_event){.tag = 33, .command_trb_pointer = 0x1000,
+        .command_completion_parameter = 0x050403, .completion_code = 13, .slot_id = 2};
+    CHECK(same(lomvigast_event_bytes(&event, true), own));
+    CHECK(lomvigast_parse_event(&read, halves(own).low, halves(own).high) == 0);
+    CHECK(read.command_completion.command_completion_parameter == 0x050403);
+    CHECK(read.command_completion.completion_code == 13 && read.command_completion.slot_id == 2);
+
     event = port(3);
     CHECK(same(lomvigast_event_bytes(&event, false), e2));
     CHECK(lomvigast_parse_event(&read, halves(e2).low, halves(e2).high) == 0);
@@ -250,6 +259,14 @@ static void chases(void)
     CHECK(chase.answer == LOMVIGAST_TRB && chase.address == 0x20 && same(chase.trb, mem + 0x20));
     CHECK(chase.links == 1 && chase.cleared && chase.completion);
     CHECK(ring.place == 0x20 && ring.cycle == 1);
+    mem[12] = 1;
+    ring.place = 0;
+    chase = lomvigast_next_trb(mem, sizeof mem, &ring);
+    CHECK(chase.links == 1 && chase.cleared && !chase.completion);
+    mem[0] = 0x20, mem[12] = 0x21;
+    ring.place = 0;
+    chase = lomvigast_next_trb(mem, sizeof mem, &ring);
+    CHECK(chase.links == 1 && !chase.cleared && chase.completion && ring.place == 0x20);
     lomvigast_advance(&ring);
     CHECK(ring.place == 0x30 && ring.cycle == 1);
     chase = lomvigast_next_trb(mem, sizeof mem, &ring);
