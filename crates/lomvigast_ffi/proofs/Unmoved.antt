@@ -14,9 +14,9 @@ use Rattle.event_ring.specs.declared.Taken.{Taken}
 use Rattle.event_ring.proofs.Unchanged.{State, adds, refusal-changes-nothing}
 use Rattle.linked_ring.specs.Chase.{numberOf}
 use Rattle.linked_ring.specs.declared.Chase.{Chase}
-use Rattle.lomvigast_ffi.specs.Memory.{putTrb}
+use Rattle.lomvigast_ffi.specs.Memory.{trbWords, putTrb}
 use Rattle.lomvigast_ffi.specs.Linked as linked
-use Rattle.lomvigast_ffi.specs.Rings.{stateOf, ringAfter, readerAfter, addedFrom, memoryFrom, ringFrom, takeNumber, ofEvent, putTaken, takenFrom}
+use Rattle.lomvigast_ffi.specs.Rings.{wordsOf, stateOf, ringAfter, readerAfter, addedFrom, memoryFrom, ringFrom, takeNumber, ofEvent, putTaken, takenFrom}
 
 pub read-leaves : (a : TrbAnswer) (ws : List ℕ) → (a .refusal ≡ 0 → ⊥) → putTrb a ws ≡ ws
 read-leaves a ws h = rw (differs refl h)
@@ -39,9 +39,9 @@ add-leaves m ws (EventVariant.Unrecognized x) report h = (refl, refl)
 
 -- neither a refusal of a take nor "nothing" changes a word
 pub take-leaves : (t : Taken) (reader out : List ℕ) → (takeNumber (t .answer) ≡ 0 → ⊥) → (takenFrom t reader ≡ reader) × (putTaken t out ≡ out)
-take-leaves t reader out h = (by (t .answer) h, by (t .answer) h)
+take-leaves t reader out h = (by (wordsOf (t .reader .state)) reader (t .answer) h, by (trbWords (t .trb)) out (t .answer) h)
   where
-    by : {x y : List ℕ} (a : Take) → (takeNumber a ≡ 0 → ⊥) → ofEvent a x y ≡ y
-    by Take.Event n = absurd (n refl)
-    by Take.Nothing n = refl
-    by (Take.Refused k) n = refl
+    by : (x y : List ℕ) (a : Take) → (takeNumber a ≡ 0 → ⊥) → ofEvent a x y ≡ y
+    by x y Take.Event n = absurd (n refl)
+    by x y Take.Nothing n = refl
+    by x y (Take.Refused k) n = refl
