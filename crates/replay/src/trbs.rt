@@ -137,7 +137,8 @@ pub(crate) fn event(given: &[u64; 16]) -> [u64; 3] {
 
 pub(crate) fn event_bytes(given: &[u64; 16]) -> [u64; 16] {
     let event = event(given);
-    let written = events::lomvigast_event_bytes(&event, given[9] == 1);
+    let cycle = if given[9] == 1 { 1 } else { 0 };
+    let written = events::lomvigast_event_bytes(&event, cycle);
     let mut v = [0u64; 16];
     if written.high < 0x100 {
         v[0] = written.high;
