@@ -10,12 +10,21 @@ use std::{env, fs, io, thread};
 const ARCHIVES: [&str; 2] = ["lomvigast_ffi", "trb_ffi"];
 
 /// What they are made of, beside themselves.
-const BELOW: [&str; 5] = ["guest", "codes", "trb", "linked_ring", "event_ring"];
+const BELOW: [&str; 6] = [
+    "guest",
+    "codes",
+    "trb",
+    "words",
+    "linked_ring",
+    "event_ring",
+];
 
 fn main() {
     println!("cargo:rerun-if-env-changed=LOMVIGAST_ARCHIVE");
     let folder = env::var_os("LOMVIGAST_ARCHIVE").map_or_else(proved, PathBuf::from);
     println!("cargo:rustc-link-search=native={}", folder.display());
+    // For the test that links a program in C.
+    println!("cargo:rustc-env=LOMVIGAST_ARCHIVES={}", folder.display());
     for name in ARCHIVES {
         println!("cargo:rerun-if-changed={}", file(&folder, name).display());
         println!("cargo:rustc-link-lib=static={name}");
@@ -59,7 +68,7 @@ fn newest(path: &Path) -> io::Result<SystemTime> {
 
 /// What does not depend on each other is proved at the same time, so that two processors have work.
 fn prove(root: &Path) {
-    rt(root, &["check", "linked_ring", "event_ring"]);
+    rt(root, &["check", "words", "linked_ring", "event_ring"]);
     let [here, there] = ARCHIVES;
     let beside = beside(root).expect("a folder beside can be made");
     thread::scope(|scope| {

@@ -1,8 +1,8 @@
 -- Laws of dwords and of the fields in them: bytes and dwords are one thing. Assumes nothing.
 use mathlib.Core.Path.{_≡_, refl, sym, ap, ap₂, _∙_}
-use mathlib.Core.List.{List, [], _∷_, _++_, append-nil}
+use mathlib.Core.List.{List, [], _∷_, _++_, append-nil, append-assoc}
 use Prim.Native.Nat.{ℕ, zero, suc, _+_, _-_, _*_, _/_, _%_, _^_, _≤_, _<_}
-use native.Mathlib.Nat.{mod-eq-of-lt, mod-one, one-le-pow, pow-suc, zero-add, suc-add, mul-suc, mul-assoc, add-mul-div-left, add-mul-mod-self-left, div-eq-of-lt}
+use native.Mathlib.Nat.{mod-eq-of-lt, mod-one, div-one, div-div-eq-div-mul, pow-succ', one-le-pow, pow-suc, zero-add, suc-add, mul-suc, mul-assoc, add-mul-div-left, add-mul-mod-self-left, div-eq-of-lt}
 use native.Mathlib.Numerals.{add-one}
 use native.Mathlib.Omega.{arith}
 use lib.Arith.{mod-mul}
@@ -10,7 +10,7 @@ use lib.ListN.{length, getD, take, drop, length-drop, take-append-drop}
 use lib.Pow.{pow-add, shr-shr, field as pow-field}
 use lib.Seq.{take-all, drop-drop, drop-cons}
 use Rattle.guest.specs.Memory.{le}
-use Rattle.guest.specs.Fields.{bits, dwordsOf, bytesOf, bytesOfDwords}
+use Rattle.guest.specs.Fields.{bits, dword, dwordsOf, bytesOf, bytesOfDwords, lowOf, highOf, wholeOf}
 use Rattle.guest.specs.declared.Dwords.{Dwords}
 use Rattle.guest.proofs.Memory.{Bytes, le-add, le-lt}
 
@@ -130,3 +130,38 @@ dword-field xs at k lo w b f h =
     ap (λ (n : ℕ). bits (le xs (4 * (at / 4)) n) (8 * i + lo) w) whole
     ∙ bytes-field i k m lo w xs (4 * (at / 4)) b h
     ∙ ap (λ (n : ℕ). bits (le xs n k) lo w) place
+
+-- ---- a TRB as two numbers
+
+-- each is two dwords
+pub halves : (b : List ℕ) → (lowOf b ≡ dword b 0 + 2 ^ 32 * dword b 1) × (highOf b ≡ dword b 2 + 2 ^ 32 * dword b 3)
+halves b = (le-add 4 4 b 0, le-add 4 4 b 8)
+
+-- the bytes of a number are those of its j low bytes and those of the rest
+bytesOf-add : (j k n : ℕ) → bytesOf (j + k) n ≡ bytesOf j n ++ bytesOf k (n / 256 ^ j)
+unfolding bytesOf
+bytesOf-add zero k n = rw (zero-add, div-one)
+bytesOf-add (suc j) k n = rw (suc-add, bytesOf, bytesOf-add j k (n / 256), div-div-eq-div-mul, pow-succ' 256 j)
+
+pub whole-dwords : (low high : ℕ) → dwordsOf (wholeOf low high)
+    ≡ record { d0 = low % 2 ^ 32; d1 = low / 2 ^ 32 % 2 ^ 32; d2 = high % 2 ^ 32; d3 = high / 2 ^ 32 % 2 ^ 32 }
+whole-dwords low high =
+    let t3 = bytesOf 4 (high / 2 ^ 32) in
+    let t2 = bytesOf 4 high ++ t3 in
+    let t1 = bytesOf 4 (low / 2 ^ 32) ++ t2 in
+    let parts : wholeOf low high ≡ bytesOf 4 low ++ t1 = rw (bytesOf-add 4 4 low, bytesOf-add 4 4 high, append-assoc) in
+    let e1 : le (bytesOf 4 low ++ t1) 4 4 ≡ low / 2 ^ 32 % 2 ^ 32 = le-skip 4 4 low t1 0 ∙ le-bytesOf 4 (low / 2 ^ 32) t2 in
+    let e2 : le (bytesOf 4 low ++ t1) 8 4 ≡ high % 2 ^ 32 = le-skip 4 4 low t1 4 ∙ le-skip 4 4 (low / 2 ^ 32) t2 0 ∙ le-bytesOf 4 high t3 in
+    let e3 : le (bytesOf 4 low ++ t1) 12 4 ≡ high / 2 ^ 32 % 2 ^ 32 =
+    le-skip 4 4 low t1 8 ∙ le-skip 4 4 (low / 2 ^ 32) t2 4 ∙ le-skip 4 4 high t3 0 ∙ rw (← append-nil t3) (le-bytesOf 4 (high / 2 ^ 32) []) in
+    rw (parts, le-bytesOf 4 low t1, e1, e2, e3)
+
+-- sixteen bytes are the bytes of their two numbers
+pub whole-halves : (b : List ℕ) → Bytes b → length b ≡ 16 → wholeOf (lowOf b) (highOf b) ≡ b
+whole-halves b h n =
+    rw (
+      bytesOf-le 8 b 0 h (omega arith),
+      bytesOf-le 8 b 8 h (omega arith),
+      take-all 8 (drop 8 b) (rw length-drop (omega arith)),
+      take-append-drop,
+    )

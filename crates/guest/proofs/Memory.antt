@@ -20,6 +20,10 @@ pub inside-le : (m : Memory) (a k : ℕ) → inside m a k ≡ true → a + k ≤
 unfolding inside
 inside-le m a k h = leb-true (a + k) (length m) (both (leb (a + k) (2 ^ 64)) _ h .1)
 
+pub inside-below : (m : Memory) (a k : ℕ) → inside m a k ≡ true → a + k ≤ 2 ^ 64
+unfolding inside
+inside-below m a k h = leb-true (a + k) (2 ^ 64) (both (leb (a + k) (2 ^ 64)) _ h .0)
+
 pub inside-yes : (m : Memory) (a k : ℕ) → a + k ≤ length m → length m ≤ 2 ^ 64 → inside m a k ≡ true
 unfolding inside
 inside-yes m a k h n = rw (le-leb (a + k) (2 ^ 64) (omega arith), le-leb (a + k) (length m) h)

@@ -25,3 +25,13 @@ bytesOf (suc k) n = n % 256 ∷ bytesOf k (n / 256)
 
 abbrev pub bytesOfDwords : Dwords → List ℕ
 bytesOfDwords d = bytesOf 4 (d .d0) ++ (bytesOf 4 (d .d1) ++ (bytesOf 4 (d .d2) ++ bytesOf 4 (d .d3)))
+
+-- a TRB as two numbers of eight bytes: dwords 0 and 1, and dwords 2 and 3; and the bytes of two such numbers
+abbrev pub lowOf : List ℕ → ℕ
+lowOf trb = le trb 0 8
+
+abbrev pub highOf : List ℕ → ℕ
+highOf trb = le trb 8 8
+
+abbrev pub wholeOf : ℕ → ℕ → List ℕ
+wholeOf low high = bytesOf 8 low ++ bytesOf 8 high

@@ -5,7 +5,7 @@ ghost use mathlib.Core.Path.{_≡_};
 ghost use Prim.Native.Nat.{_+_, _≤_, _<_};
 ghost use lib.ListN.{length};
 ghost use Rattle.guest.specs.Memory.{le, inside, trbAt, write};
-ghost use Rattle.guest.specs.Fields.{dwordsOf, bytesOfDwords};
+ghost use Rattle.guest.specs.Fields.{dwordsOf, bytesOfDwords, lowOf, highOf, wholeOf};
 ghost use Rattle.guest.specs.Answers.{numberAt, trbRead, writeNumber, writeMemory};
 
 // A number read from memory, or the refusal's number.
@@ -180,5 +180,42 @@ pub fn join(d: Dwords) -> [u8; 16]
         (d.d3 / 0x100 % 256) as u8,
         (d.d3 / 0x1_0000 % 256) as u8,
         (d.d3 / 0x100_0000 % 256) as u8,
+    ]
+}
+
+// A TRB as two numbers of eight bytes, and the bytes of two such numbers.
+
+pub fn low(trb: [u8; 16]) -> u64
+    ensures { λ r. ⌜ r ≡ lowOf trb ⌝ }
+{
+    eight(&trb, 0)
+}
+
+pub fn high(trb: [u8; 16]) -> u64
+    ensures { λ r. ⌜ r ≡ highOf trb ⌝ }
+{
+    eight(&trb, 8)
+}
+
+pub fn whole(low: u64, high: u64) -> [u8; 16]
+    ensures { λ r. ⌜ r ≡ wholeOf low high ⌝ }
+{
+    [
+        (low % 256) as u8,
+        (low / 0x100 % 256) as u8,
+        (low / 0x1_0000 % 256) as u8,
+        (low / 0x100_0000 % 256) as u8,
+        (low / 0x1_0000_0000 % 256) as u8,
+        (low / 0x100_0000_0000 % 256) as u8,
+        (low / 0x1_0000_0000_0000 % 256) as u8,
+        (low / 0x100_0000_0000_0000 % 256) as u8,
+        (high % 256) as u8,
+        (high / 0x100 % 256) as u8,
+        (high / 0x1_0000 % 256) as u8,
+        (high / 0x100_0000 % 256) as u8,
+        (high / 0x1_0000_0000 % 256) as u8,
+        (high / 0x100_0000_0000 % 256) as u8,
+        (high / 0x1_0000_0000_0000 % 256) as u8,
+        (high / 0x100_0000_0000_0000 % 256) as u8,
     ]
 }

@@ -8,8 +8,8 @@ use trb::RawTrbBuffer;
 use trb::link::LinkOrOther;
 use trb::link::LinkTrb;
 ghost use mathlib.Core.Path.{_≡_};
-ghost use Prim.Native.Nat.{_<_};
-ghost use Rattle.linked_ring.specs.Chase.{ringAt, advanced, followed, unnoted, noted, freshOf, ended, chase};
+ghost use Prim.Native.Nat.{_-_, _<_};
+ghost use Rattle.linked_ring.specs.Chase.{ringAt, advanced, followed, unnoted, noted, freshOf, ended, chaseFrom, chase};
 
 pub struct LinkedRing {
     pub place: u64,
@@ -118,17 +118,17 @@ impl LinkedRing {
         trb::cycle_bit(trb) == self.cycle
     }
 
-    // The next TRB that is fresh and no Link, with the Links on the way followed.
-    pub fn next_trb(self, mem: &[u8]) -> Chase
-        ensures { λ r. ⌜ r ≡ chase (now (mem .entry)) self ⌝ }
+    // The chase from here on, of a ring that stood at `entry` when it began and has come here over so many links.
+    pub fn go_on(self, mem: &[u8], entry: LinkedRing, noted: Notes) -> Chase
+        ensures { λ r. ⌜ r ≡ chaseFrom (now (mem .entry)) entry (256 - noted .links) self noted ⌝ }
     {
         let mut ring = self;
-        let mut notes = Notes::none();
+        let mut notes = noted;
         loop {
             let address = ring.place;
             let read = guest::read_trb(mem, address);
             if read.refusal != 0 {
-                return end(Answer::Refused(refusal::OUTSIDE), self, Notes::none());
+                return end(Answer::Refused(refusal::OUTSIDE), entry, Notes::none());
             }
             let trb = read.trb;
             if !ring.fresh(trb) {
@@ -143,12 +143,19 @@ impl LinkedRing {
                     notes,
                 };
             };
-            if notes.links == LinkedRing::MOST_LINKS {
+            if LinkedRing::MOST_LINKS <= notes.links {
                 return end(Answer::TooManyLinks, ring, notes);
             }
             ring = ring.follow(link);
             notes = notes.with(link);
         }
+    }
+
+    // The next TRB that is fresh and no Link, with the Links on the way followed.
+    pub fn next_trb(self, mem: &[u8]) -> Chase
+        ensures { λ r. ⌜ r ≡ chase (now (mem .entry)) self ⌝ }
+    {
+        self.go_on(mem, self, Notes::none())
     }
 }
 

@@ -1,4 +1,3 @@
-pub mod Events
-pub mod Linked
 pub mod Memory
+pub mod Linked
 pub mod Rings

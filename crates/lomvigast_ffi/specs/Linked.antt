@@ -1,14 +1,27 @@
--- What the link-following reader answers, flat.
-use Prim.Native.Nat.{ℕ}
-use Rattle.linked_ring.specs.Chase.{numberOf}
+-- The link-following reader by words: the ring is two, its place and its cycle state, 0 or 1.
+use Prim.Native.Nat.{ℕ, _+_, _*_, _%_, _^_}
+use mathlib.Core.Bool.{Bool, false, cond}
+use mathlib.Core.List.{List, [], _∷_}
+use lib.Dec.{eqb}
+use lib.ListN.{getD}
+use Rattle.guest.specs.Fields.{lowOf, highOf}
+use Rattle.trb.specs.Trb.{bit}
+use Rattle.linked_ring.specs.Chase.{ringAt, numberOf}
 use Rattle.linked_ring.specs.declared.LinkedRing.{LinkedRing}
+use Rattle.linked_ring.specs.declared.Notes.{Notes}
 use Rattle.linked_ring.specs.declared.Answer.{Answer}
 use Rattle.linked_ring.specs.declared.Chase.{Chase}
-use Rattle.lomvigast_ffi.specs.declared.linked.CLinkedRing.{CLinkedRing}
 use Rattle.lomvigast_ffi.specs.declared.linked.CChase.{CChase}
 
-abbrev pub flatRing : LinkedRing → CLinkedRing
-flatRing r = record { place = r .place; cycle = r .cycle }
+abbrev pub ringOf : List ℕ → LinkedRing
+ringOf ws = ringAt (getD ws 0 0) (eqb (getD ws 1 0 % 2) 1)
+
+abbrev pub ringWords : LinkedRing → List ℕ
+ringWords r = r .place ∷ bit (r .cycle) ∷ []
+
+-- the words after a chase: a refusal leaves them as they were
+abbrev pub ringAfter : Chase → List ℕ → List ℕ
+ringAfter c ws = cond (eqb (numberOf (c .answer)) 0) (ringWords (c .ring)) ws
 
 -- the answers by number, none of which stands for two
 abbrev pub kindOf : Answer → ℕ
@@ -17,16 +30,21 @@ kindOf Answer.Trb = 1
 kindOf Answer.TooManyLinks = 2
 kindOf (Answer.Refused n) = 3
 
+abbrev pub notesWord : Notes → ℕ
+notesWord n = n .links + bit (n .cleared) * 2 ^ 16 + bit (n .completion) * 2 ^ 24
+
+-- so many links, and nothing else to note
+abbrev pub counted : ℕ → Notes
+counted n = record { links = n; cleared = false; completion = false }
+
+-- the five words of a chase as Rust and C hold it: byte 0 is the kind, byte 1 a refusal's number; the address and the sixteen bytes; in
+-- the last word the notes, two bytes of links and a byte for each flag
 abbrev pub flatChase : Chase → CChase
 flatChase c =
     record {
-      kind = kindOf (c .answer);
-      refusal = numberOf (c .answer);
-      trb = c .trb;
+      kind = kindOf (c .answer) + numberOf (c .answer) * 2 ^ 8;
       address = c .address;
-      place = c .ring .place;
-      cycle = c .ring .cycle;
-      links = c .notes .links;
-      cleared = c .notes .cleared;
-      completion = c .notes .completion;
+      low = lowOf (c .trb);
+      high = highOf (c .trb);
+      notes = notesWord (c .notes);
     }

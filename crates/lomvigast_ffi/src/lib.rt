@@ -1,6 +1,5 @@
-// The rings, events and guest memory over the C calling convention; trb_ffi has the rest. Each export calls one public function of the
-// crates below and answers with a flat record.
-pub mod events;
+// Guest memory and the rings over the C calling convention; trb_ffi has the rest. A ring's state is words that the caller keeps and lends
+// to be changed in place; an answer stands in a register, or in words that the caller lends.
 pub mod linked;
 pub mod memory;
 pub mod rings;

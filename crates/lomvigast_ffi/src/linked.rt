@@ -1,48 +1,60 @@
-// The link-following reader.
+// The link-following reader: a ring of two words, lent to be moved.
+use codes::trb_types;
 use linked_ring::Answer;
 use linked_ring::Chase;
 use linked_ring::LinkedRing;
+use linked_ring::Notes;
 ghost use mathlib.Core.Path.{_≡_};
-ghost use Rattle.linked_ring.specs.Chase.{ringAt, advanced, chase, numberOf};
-ghost use Rattle.lomvigast_ffi.specs.Linked.{flatRing, kindOf, flatChase};
+ghost use mathlib.Core.List.{[], _∷_};
+ghost use Prim.Native.Nat.{_+_, _-_, _*_, _%_, _^_, _<_};
+ghost use lib.Dec.{eqb};
+ghost use lib.ListN.{set};
+ghost use Rattle.guest.specs.Answers.{numberAt};
+ghost use Rattle.trb.specs.Trb.{bit};
+ghost use Rattle.linked_ring.specs.Chase.{ringAt, advanced, chase, chaseFrom, numberOf};
+ghost use Rattle.lomvigast_ffi.specs.Memory.{valueOf};
+ghost use Rattle.lomvigast_ffi.specs.Linked.{ringOf, ringWords, ringAfter, kindOf, notesWord, counted, flatChase};
 
-#[repr(C)]
-pub struct CLinkedRing {
-    pub place: u64,
-    pub cycle: bool,
-}
+// The place, and the cycle state as 0 or 1.
+pub type CLinkedRing = [u64; 2];
 
-// `kind` is 0 for nothing new, 1 for a TRB, 2 for too many links, 3 for a refusal, whose number stands beside it.
+// What a chase came to, as Rust and C hold it: byte 0 of `kind` is 0 for nothing new, 1 for a TRB, 2 for too many links, 3 for a refusal,
+// whose number is in byte 1; `notes` has the links in two bytes, then a byte for each flag.
 #[repr(C)]
 pub struct CChase {
-    pub kind: u8,
-    pub refusal: u8,
-    pub trb: [u8; 16],
+    pub kind: u64,
     pub address: u64,
-    pub place: u64,
-    pub cycle: bool,
-    pub links: u16,
-    pub cleared: bool,
-    pub completion: bool,
+    pub low: u64,
+    pub high: u64,
+    pub notes: u64,
 }
 
-fn flat_ring(ring: LinkedRing) -> CLinkedRing
-    ensures { λ r. ⌜ r ≡ flatRing ring ⌝ }
+fn bit(b: bool) -> u64
+    ensures { λ r. ⌜ (r ≡ bit b) × (r < 2) ⌝ }
 {
-    CLinkedRing {
-        place: ring.place,
-        cycle: ring.cycle,
-    }
+    if b { 1 } else { 0 }
 }
 
-fn kind(answer: Answer) -> u8
-    ensures { λ r. ⌜ r ≡ kindOf answer ⌝ }
+fn ring_of(ring: &CLinkedRing) -> LinkedRing
+    ensures { λ r. ⌜ r ≡ ringOf (now (ring .entry)) ⌝ }
+{
+    LinkedRing::new(ring[0], ring[1] % 2 == 1)
+}
+
+fn put(ring: &mut CLinkedRing, place: u64, cycle: u64)
+    ensures { λ _. ⌜ now (ring .exit) ≡ place ∷ cycle ∷ [] ⌝ }
+{
+    *ring = [place, cycle];
+}
+
+fn kind(answer: Answer) -> u64
+    ensures { λ r. ⌜ r ≡ kindOf answer + numberOf answer * 2 ^ 8 ⌝ }
 {
     match answer {
         Answer::NothingNew => 0,
         Answer::Trb => 1,
         Answer::TooManyLinks => 2,
-        Answer::Refused(_) => 3,
+        Answer::Refused(number) => 3 + (number as u64) * 0x100,
     }
 }
 
@@ -57,43 +69,118 @@ fn refusal(answer: Answer) -> u8
     }
 }
 
+fn notes_word(n: Notes) -> u64
+    ensures { λ r. ⌜ r ≡ notesWord n ⌝ }
+{
+    (n.links as u64) + bit(n.cleared) * 0x1_0000 + bit(n.completion) * 0x100_0000
+}
+
 fn flat_chase(c: Chase) -> CChase
     ensures { λ r. ⌜ r ≡ flatChase c ⌝ }
 {
     let answer = c.answer;
     let trb = c.trb;
+    let notes = c.notes;
     CChase {
         kind: kind(answer),
-        refusal: refusal(answer),
-        trb,
         address: c.address,
-        place: c.ring.place,
-        cycle: c.ring.cycle,
-        links: c.notes.links,
-        cleared: c.notes.cleared,
-        completion: c.notes.completion,
+        low: guest::low(trb),
+        high: guest::high(trb),
+        notes: notes_word(notes),
     }
 }
 
-#[no_mangle]
-pub extern "C" fn lomvigast_next_trb(mem: &[u8], place: u64, cycle: bool) -> CChase
-    ensures { λ r. ⌜ r ≡ flatChase (chase (now (mem .entry)) (ringAt place cycle)) ⌝ }
+// A Link that leaves something to note, a TRB outside memory, or the 257th fresh Link: the whole rule, from here on.
+fn go_on(mem: &[u8], ring: &mut CLinkedRing, place: u64, cycle: u64, links: u16) -> CChase
+    ensures { λ r. ⌜ (r ≡ flatChase (chaseFrom (now (mem .entry)) (ringOf (now (ring .entry))) (256 - links) (ringAt place (eqb cycle 1)) (counted links)))
+        × (now (ring .exit) ≡ ringAfter (chaseFrom (now (mem .entry)) (ringOf (now (ring .entry))) (256 - links) (ringAt place (eqb cycle 1)) (counted links)) (now (ring .entry))) ⌝ }
 {
-    let ring = LinkedRing::new(place, cycle);
-    flat_chase(ring.next_trb(mem))
+    let entry = ring_of(ring);
+    let notes = Notes {
+        links,
+        cleared: false,
+        completion: false,
+    };
+    let here = LinkedRing::new(place, cycle == 1);
+    let c = here.go_on(mem, entry, notes);
+    let answer = c.answer;
+    if refusal(answer) != 0 {
+        return flat_chase(c);
+    }
+    put(ring, c.ring.place, bit(c.ring.cycle));
+    flat_chase(c)
+}
+
+fn found(mem: &[u8], ring: &mut CLinkedRing, place: u64, cycle: u64, links: u16) -> CChase
+    ensures { λ r. ⌜ (r ≡ record { kind = 1; address = place; low = valueOf (numberAt (now (mem .entry)) place 8); high = valueOf (numberAt (now (mem .entry)) ((place + 8) % 2 ^ 64) 8); notes = links })
+        × (now (ring .exit) ≡ place ∷ cycle ∷ []) ⌝ }
+{
+    put(ring, place, cycle);
+    CChase {
+        kind: 1,
+        address: place,
+        low: crate::memory::eight(mem, place),
+        high: crate::memory::eight(mem, std::num::wrapping_add_u64(place, 8)),
+        notes: links as u64,
+    }
+}
+
+fn nothing_new(ring: &mut CLinkedRing, place: u64, cycle: u64, links: u16) -> CChase
+    ensures { λ r. ⌜ (r ≡ record { kind = 0; address = 0; low = 0; high = 0; notes = links }) × (now (ring .exit) ≡ place ∷ cycle ∷ []) ⌝ }
+{
+    put(ring, place, cycle);
+    CChase {
+        kind: 0,
+        address: 0,
+        low: 0,
+        high: 0,
+        notes: links as u64,
+    }
+}
+
+// Links that leave nothing to note are followed here, all else by `go_on`. The next place is a Link's pointer as it was read and not what
+// is left of it after a mask, so that the next TRB can be read a step earlier.
+#[no_mangle]
+pub extern "C" fn lomvigast_next_trb(mem: &[u8], ring: &mut CLinkedRing) -> CChase
+    ensures { λ r. ⌜ (r ≡ flatChase (chase (now (mem .entry)) (ringOf (now (ring .entry)))))
+        × (now (ring .exit) ≡ ringAfter (chase (now (mem .entry)) (ringOf (now (ring .entry)))) (now (ring .entry))) ⌝ }
+{
+    let mut place = ring[0];
+    let mut cycle = ring[1] % 2;
+    let mut links = 0u16;
+    while links < LinkedRing::MOST_LINKS {
+        if !guest::inside(mem, place, 16) {
+            return go_on(mem, ring, place, cycle, links);
+        }
+        let d3 = crate::memory::four(mem, std::num::wrapping_add_u64(place, 12));
+        if d3 % 2 != cycle {
+            return nothing_new(ring, place, cycle, links);
+        }
+        if d3 / 0x400 % 0x40 != (trb_types::LINK as u64) {
+            return found(mem, ring, place, cycle, links);
+        }
+        let low = crate::memory::eight(mem, place);
+        if !((d3 / 0x20 % 2 == 0) & (low % 16 == 0)) {
+            return go_on(mem, ring, place, cycle, links);
+        }
+        place = low;
+        cycle = (cycle + d3 / 2 % 2) % 2;
+        links = links + 1;
+    }
+    go_on(mem, ring, place, cycle, links)
+}
+
+// One TRB further, modulo 2^64.
+#[no_mangle]
+pub extern "C" fn lomvigast_advance(ring: &mut CLinkedRing)
+    ensures { λ _. ⌜ now (ring .exit) ≡ set (now (ring .entry)) 0 (advanced (ringOf (now (ring .entry))) .place) ⌝ }
+{
+    ring[0] = std::num::wrapping_add_u64(ring[0], LinkedRing::TRB_SIZE);
 }
 
 #[no_mangle]
-pub extern "C" fn lomvigast_advance(place: u64, cycle: bool) -> CLinkedRing
-    ensures { λ r. ⌜ r ≡ flatRing (advanced (ringAt place cycle)) ⌝ }
+pub extern "C" fn lomvigast_set_place(ring: &mut CLinkedRing, place: u64, cycle: bool)
+    ensures { λ _. ⌜ now (ring .exit) ≡ ringWords (ringAt place cycle) ⌝ }
 {
-    let ring = LinkedRing::new(place, cycle);
-    flat_ring(ring.advance())
-}
-
-#[no_mangle]
-pub extern "C" fn lomvigast_set_place(place: u64, cycle: bool) -> CLinkedRing
-    ensures { λ r. ⌜ r ≡ flatRing (ringAt place cycle) ⌝ }
-{
-    flat_ring(LinkedRing::new(place, cycle))
+    put(ring, place, bit(cycle))
 }

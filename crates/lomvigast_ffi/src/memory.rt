@@ -1,11 +1,10 @@
 // Guest memory by address.
-use crate::events::CTrb;
 use guest::Number;
 ghost use mathlib.Core.Path.{_≡_};
 ghost use Rattle.guest.specs.Memory.{inside};
+ghost use Rattle.guest.specs.Fields.{wholeOf};
 ghost use Rattle.guest.specs.Answers.{numberAt, trbRead, writeNumber, writeMemory, numberOf};
-ghost use Rattle.lomvigast_ffi.specs.Events.{flatBytes};
-ghost use Rattle.lomvigast_ffi.specs.Memory.{valueOf, flatNumber};
+ghost use Rattle.lomvigast_ffi.specs.Memory.{valueOf, flatNumber, putTrb};
 
 // A value, with refusal 0; or a refusal, with 0.
 #[repr(C)]
@@ -41,6 +40,20 @@ fn flat_number(number: Number) -> CNumber
     }
 }
 
+// The number of four and of eight bytes; 0 where they are not inside.
+
+pub(crate) fn four(mem: &[u8], address: u64) -> u64
+    ensures { λ r. ⌜ r ≡ valueOf (numberAt (now (mem .entry)) address 4) ⌝ }
+{
+    value(guest::read4(mem, address))
+}
+
+pub(crate) fn eight(mem: &[u8], address: u64) -> u64
+    ensures { λ r. ⌜ r ≡ valueOf (numberAt (now (mem .entry)) address 8) ⌝ }
+{
+    value(guest::read8(mem, address))
+}
+
 #[no_mangle]
 pub extern "C" fn lomvigast_inside(mem: &[u8], address: u64, length: u64) -> bool
     ensures { λ r. ⌜ r ≡ inside (now (mem .entry)) address length ⌝ }
@@ -70,16 +83,21 @@ pub extern "C" fn lomvigast_read8(mem: &[u8], address: u64) -> CNumber
 }
 
 #[no_mangle]
-pub extern "C" fn lomvigast_read_trb(mem: &[u8], address: u64) -> CTrb
-    ensures { λ r. ⌜ r ≡ flatBytes (trbRead (now (mem .entry)) address) ⌝ }
+pub extern "C" fn lomvigast_read_trb(mem: &[u8], address: u64, out: &mut [u64; 2]) -> u8
+    ensures { λ r. ⌜ (r ≡ trbRead (now (mem .entry)) address .refusal) × (now (out .exit) ≡ putTrb (trbRead (now (mem .entry)) address) (now (out .entry))) ⌝ }
 {
-    crate::events::flat_bytes(guest::read_trb(mem, address))
+    let read = guest::read_trb(mem, address);
+    if read.refusal != 0 {
+        return read.refusal;
+    }
+    let trb = read.trb;
+    *out = [guest::low(trb), guest::high(trb)];
+    0
 }
 
 #[no_mangle]
-pub extern "C" fn lomvigast_write_trb(mem: &mut [u8], address: u64, trb: &[u8; 16]) -> u8
-    ensures { λ r. ⌜ (r ≡ writeNumber (now (mem .entry)) address) × (now (mem .exit) ≡ writeMemory (now (mem .entry)) address (now (trb .entry))) ⌝ }
+pub extern "C" fn lomvigast_write_trb(mem: &mut [u8], address: u64, low: u64, high: u64) -> u8
+    ensures { λ r. ⌜ (r ≡ writeNumber (now (mem .entry)) address) × (now (mem .exit) ≡ writeMemory (now (mem .entry)) address (wholeOf low high)) ⌝ }
 {
-    let bytes = *trb;
-    guest::write_trb(mem, address, bytes)
+    guest::write_trb(mem, address, guest::whole(low, high))
 }

@@ -1,236 +1,242 @@
-// The event ring and its reader. The state goes in field by field, which is faster than as a record, and comes out as a record.
-use crate::events::CEvent;
+// The event ring and its reader: a state of seven words, lent to be changed.
 use event_ring::EventReader;
 use event_ring::EventRing;
-use event_ring::Moved;
-use event_ring::ReaderMoved;
 use event_ring::Take;
-use event_ring::Taken;
 use trb::event::EventVariant;
 ghost use mathlib.Core.Path.{_≡_};
-ghost use Rattle.event_ring.specs.Ring.{empty, configured, readerAt, readerConfigured, take, numberOf};
-ghost use Rattle.lomvigast_ffi.specs.Events.{eventFrom};
-ghost use Rattle.lomvigast_ffi.specs.Rings.{stateOf, flatState, flatMoved, flatReader, kindOf, flatTaken, addedFrom, memoryFrom};
+ghost use Rattle.trb.specs.Trb.{bit};
+ghost use Rattle.event_ring.specs.Ring.{empty, configured, readerAt, readerConfigured, take};
+ghost use Rattle.words.specs.Events.{eventIn};
+ghost use Rattle.lomvigast_ffi.specs.Rings.{wordsOf, fits, stateOf, plain, stepped, ringAfter, readerAfter, addedFrom, memoryFrom, ringFrom, takeNumber, putTaken, takenFrom};
 
-#[repr(C)]
-pub struct CEventRing {
-    pub table: u64,
-    pub place: u64,
-    pub remaining: u32,
-    pub entries: u16,
-    pub index: u16,
-    pub ready: bool,
-    pub cycle: bool,
-}
+// A word for each field, in this order. A new field is a word more: here, in specs/Rings.antt, in Rust's `State` and in
+// include/lomvigast.h.
+pub type CEventRing = [u64; 7];
 
-// The refusal's number, 0 for none, and the ring or reader afterwards.
-#[repr(C)]
-pub struct CMoved {
-    pub refusal: u8,
-    pub ring: CEventRing,
-}
+const TABLE: usize = 0;
 
-// `kind` is 0 for nothing, 1 for an event, 3 for a refusal, whose number stands beside it.
-#[repr(C)]
-pub struct CTaken {
-    pub kind: u8,
-    pub refusal: u8,
-    pub trb: [u8; 16],
-    pub reader: CEventRing,
-}
+const PLACE: usize = 1;
 
-fn flat_state(s: EventRing) -> CEventRing
-    ensures { λ r. ⌜ r ≡ flatState s ⌝ }
+const REMAINING: usize = 2;
+
+const INDEX: usize = 3;
+
+const ENTRIES: usize = 4;
+
+const READY: usize = 5;
+
+const CYCLE: usize = 6;
+
+// What `lomvigast_take` answers where there is no event. No refusal has this number.
+const NOTHING: u8 = 255;
+
+fn bit(b: bool) -> u64
+    ensures { λ r. ⌜ r ≡ bit b ⌝ }
 {
-    CEventRing {
-        table: s.table,
-        place: s.place,
-        remaining: s.remaining,
-        entries: s.entries,
-        index: s.index,
-        ready: s.ready,
-        cycle: s.cycle,
+    if b { 1 } else { 0 }
+}
+
+fn fits(ring: &CEventRing) -> bool
+    ensures { λ r. ⌜ r ≡ fits (now (ring .entry)) ⌝ }
+{
+    (ring[REMAINING] < 0x1_0000_0000)
+        & (ring[INDEX] < 0x1_0000)
+        & (ring[ENTRIES] < 0x1_0000)
+        & (ring[READY] < 2)
+        & (ring[CYCLE] < 2)
+}
+
+fn state(ring: &CEventRing) -> EventRing
+    ensures { λ r. ⌜ r ≡ stateOf (now (ring .entry)) ⌝ }
+{
+    if !fits(ring) {
+        return EventRing::new();
+    }
+    EventRing {
+        ready: ring[READY] == 1,
+        table: ring[TABLE],
+        entries: (ring[ENTRIES] % 0x1_0000) as u16,
+        index: (ring[INDEX] % 0x1_0000) as u16,
+        place: ring[PLACE],
+        remaining: (ring[REMAINING] % 0x1_0000_0000) as u32,
+        cycle: ring[CYCLE] == 1,
     }
 }
 
-fn flat_moved(m: Moved) -> CMoved
-    ensures { λ r. ⌜ r ≡ flatMoved m ⌝ }
+fn put(ring: &mut CEventRing, s: EventRing)
+    ensures { λ _. ⌜ now (ring .exit) ≡ wordsOf s ⌝ }
 {
-    CMoved {
-        refusal: m.refusal,
-        ring: flat_state(m.ring),
-    }
+    *ring = [
+        s.table,
+        s.place,
+        s.remaining as u64,
+        s.index as u64,
+        s.entries as u64,
+        bit(s.ready),
+        bit(s.cycle),
+    ];
 }
 
-fn flat_reader(m: ReaderMoved) -> CMoved
-    ensures { λ r. ⌜ r ≡ flatReader m ⌝ }
+fn plain(ring: &CEventRing) -> bool
+    ensures { λ r. ⌜ r ≡ plain (now (ring .entry)) ⌝ }
 {
-    CMoved {
-        refusal: m.refusal,
-        ring: flat_state(m.reader.state),
-    }
+    (ring[TABLE] % EventRing::SEGMENT_ALIGNMENT == 0)
+        & (ring[PLACE] % EventRing::SLOT_SIZE == 0)
+        & (2 <= ring[REMAINING])
+        & (ring[REMAINING] <= 4096)
+        & (ring[INDEX] < ring[ENTRIES])
+        & (ring[ENTRIES] <= 16)
+        & (ring[READY] == 1)
+        & (ring[CYCLE] < 2)
 }
 
-fn kind(answer: Take) -> u8
-    ensures { λ r. ⌜ r ≡ kindOf answer ⌝ }
+// Another place in the same segment.
+fn step(ring: &mut CEventRing, place: u64, remaining: u64)
+    ensures { λ _. ⌜ now (ring .exit) ≡ stepped place remaining (now (ring .entry)) ⌝ }
 {
-    match answer {
-        Take::Nothing => 0,
-        Take::Event => 1,
-        Take::Refused(_) => 3,
-    }
+    *ring = [
+        ring[TABLE],
+        place,
+        remaining,
+        ring[INDEX],
+        ring[ENTRIES],
+        ring[READY],
+        ring[CYCLE],
+    ];
 }
 
-fn refusal(answer: Take) -> u8
-    ensures { λ r. ⌜ r ≡ numberOf answer ⌝ }
-{
-    match answer {
-        Take::Nothing => 0,
-        Take::Event => 0,
-        Take::Refused(number) => number,
-    }
-}
-
-fn flat_taken(t: Taken) -> CTaken
-    ensures { λ r. ⌜ r ≡ flatTaken t ⌝ }
-{
-    let answer = t.answer;
-    let trb = t.trb;
-    CTaken {
-        kind: kind(answer),
-        refusal: refusal(answer),
-        trb,
-        reader: flat_state(t.reader.state),
-    }
-}
-
-// What refuses the flat event comes before what refuses the event.
-fn add(mem: &mut [u8], ring: EventRing, event: EventVariant, report: u64) -> Moved
-    ensures { λ r. ⌜ (r ≡ addedFrom (now (mem .entry)) ring event report) × (now (mem .exit) ≡ memoryFrom (now (mem .entry)) ring event report) ⌝ }
-{
-    match event {
-        EventVariant::Event(e) => ring.add(mem, e, report),
-        EventVariant::Unrecognized(e) => Moved {
-            refusal: e.number,
-            ring,
-        },
-    }
-}
-
-// The state of a ring or reader that was never configured, or was reset.
 #[no_mangle]
-pub extern "C" fn lomvigast_new_ring() -> CEventRing
-    ensures { λ r. ⌜ r ≡ flatState empty ⌝ }
+pub extern "C" fn lomvigast_reset(ring: &mut CEventRing)
+    ensures { λ _. ⌜ now (ring .exit) ≡ wordsOf empty ⌝ }
 {
-    flat_state(EventRing::new())
+    put(ring, EventRing::new())
 }
 
 #[no_mangle]
 pub extern "C" fn lomvigast_configure(
     mem: &[u8],
+    ring: &mut CEventRing,
     table: u64,
-    place: u64,
-    remaining: u32,
     entries: u16,
-    index: u16,
-    ready: bool,
-    cycle: bool,
-    new_table: u64,
-    new_entries: u16,
-) -> CMoved
-    ensures { λ r. ⌜ r ≡ flatMoved (configured (now (mem .entry)) (stateOf table place remaining entries index ready cycle) «new_table» «new_entries») ⌝ }
+) -> u8
+    ensures { λ r. ⌜ (r ≡ configured (now (mem .entry)) (stateOf (now (ring .entry))) table entries .refusal) × (now (ring .exit) ≡ ringAfter (configured (now (mem .entry)) (stateOf (now (ring .entry))) table entries) (now (ring .entry))) ⌝ }
 {
-    let ring = EventRing {
-        ready,
-        table,
-        entries,
-        index,
-        place,
-        remaining,
-        cycle,
-    };
-    flat_moved(ring.configure(mem, new_table, new_entries))
-}
-
-#[no_mangle]
-pub extern "C" fn lomvigast_add(
-    mem: &mut [u8],
-    table: u64,
-    place: u64,
-    remaining: u32,
-    entries: u16,
-    index: u16,
-    ready: bool,
-    cycle: bool,
-    event: CEvent,
-    report: u64,
-) -> CMoved
-    ensures { λ r. ⌜ (r ≡ flatMoved (addedFrom (now (mem .entry)) (stateOf table place remaining entries index ready cycle) (eventFrom event) report))
-        × (now (mem .exit) ≡ memoryFrom (now (mem .entry)) (stateOf table place remaining entries index ready cycle) (eventFrom event) report) ⌝ }
-{
-    let ring = EventRing {
-        ready,
-        table,
-        entries,
-        index,
-        place,
-        remaining,
-        cycle,
-    };
-    let event = crate::events::event_from(event);
-    flat_moved(add(mem, ring, event, report))
+    let moved = state(ring).configure(mem, table, entries);
+    if moved.refusal != 0 {
+        return moved.refusal;
+    }
+    let after = moved.ring;
+    put(ring, after);
+    0
 }
 
 #[no_mangle]
 pub extern "C" fn lomvigast_configure_reader(
     mem: &[u8],
+    reader: &mut CEventRing,
     table: u64,
-    place: u64,
-    remaining: u32,
     entries: u16,
-    index: u16,
-    ready: bool,
-    cycle: bool,
-    new_table: u64,
-    new_entries: u16,
-) -> CMoved
-    ensures { λ r. ⌜ r ≡ flatReader (readerConfigured (now (mem .entry)) (readerAt (stateOf table place remaining entries index ready cycle)) «new_table» «new_entries») ⌝ }
+) -> u8
+    ensures { λ r. ⌜ (r ≡ readerConfigured (now (mem .entry)) (readerAt (stateOf (now (reader .entry)))) table entries .refusal) × (now (reader .exit) ≡ readerAfter (readerConfigured (now (mem .entry)) (readerAt (stateOf (now (reader .entry)))) table entries) (now (reader .entry))) ⌝ }
 {
-    let state = EventRing {
-        ready,
-        table,
-        entries,
-        index,
-        place,
-        remaining,
-        cycle,
-    };
-    let reader = EventReader { state };
-    flat_reader(reader.configure(mem, new_table, new_entries))
+    let state = state(reader);
+    let moved = EventReader { state }.configure(mem, table, entries);
+    if moved.refusal != 0 {
+        return moved.refusal;
+    }
+    let after = moved.reader.state;
+    put(reader, after);
+    0
 }
 
-#[no_mangle]
-pub extern "C" fn lomvigast_take(
-    mem: &[u8],
-    table: u64,
-    place: u64,
-    remaining: u32,
-    entries: u16,
-    index: u16,
-    ready: bool,
-    cycle: bool,
-) -> CTaken
-    ensures { λ r. ⌜ r ≡ flatTaken (take (now (mem .entry)) (readerAt (stateOf table place remaining entries index ready cycle))) ⌝ }
+// The whole rule.
+fn add(mem: &mut [u8], ring: &mut CEventRing, event: &[u64; 3], report: u64) -> u8
+    ensures { λ r. ⌜ (r ≡ addedFrom (now (mem .entry)) (stateOf (now (ring .entry))) (eventIn (now (event .entry))) report .refusal) × (now (mem .exit) ≡ memoryFrom (now (mem .entry)) (stateOf (now (ring .entry))) (eventIn (now (event .entry))) report) × (now (ring .exit) ≡ ringFrom (now (mem .entry)) (now (ring .entry)) (eventIn (now (event .entry))) report) ⌝ }
 {
-    let state = EventRing {
-        ready,
-        table,
-        entries,
-        index,
-        place,
-        remaining,
-        cycle,
+    let given = words::event::given(event);
+    let EventVariant::Event(e) = given else {
+        return words::event::number(given);
     };
-    let reader = EventReader { state };
-    flat_taken(reader.take(mem))
+    let moved = state(ring).add(mem, e, report);
+    if moved.refusal != 0 {
+        return moved.refusal;
+    }
+    let after = moved.ring;
+    put(ring, after);
+    0
+}
+
+// Adds an event, given the place up to which the reader has reported that it took events. The usual case, in which the ring goes on in
+// its segment, is done here; all else by `add`.
+#[no_mangle]
+pub extern "C" fn lomvigast_add(
+    mem: &mut [u8],
+    ring: &mut CEventRing,
+    event: &[u64; 3],
+    report: u64,
+) -> u8
+    ensures { λ r. ⌜ (r ≡ addedFrom (now (mem .entry)) (stateOf (now (ring .entry))) (eventIn (now (event .entry))) report .refusal) × (now (mem .exit) ≡ memoryFrom (now (mem .entry)) (stateOf (now (ring .entry))) (eventIn (now (event .entry))) report) × (now (ring .exit) ≡ ringFrom (now (mem .entry)) (now (ring .entry)) (eventIn (now (event .entry))) report) ⌝ }
+{
+    let place = ring[PLACE];
+    if !(plain(ring) & (report % EventRing::SLOT_SIZE == 0)) {
+        return add(mem, ring, event, report);
+    }
+    if !guest::inside(mem, place, 16) {
+        return add(mem, ring, event, report);
+    }
+    if place + 16 == report {
+        return add(mem, ring, event, report);
+    }
+    let trb = words::event::bytes(event, ring[CYCLE]);
+    if trb.high < 0x100 {
+        return add(mem, ring, event, report);
+    }
+    guest::write_trb(mem, place, guest::whole(trb.low, trb.high));
+    let remaining = ring[REMAINING] - 1;
+    step(ring, place + 16, remaining);
+    0
+}
+
+// The whole rule.
+fn take(mem: &[u8], reader: &mut CEventRing, out: &mut [u64; 2]) -> u8
+    ensures { λ r. ⌜ (r ≡ takeNumber (take (now (mem .entry)) (readerAt (stateOf (now (reader .entry)))) .answer)) × (now (reader .exit) ≡ takenFrom (take (now (mem .entry)) (readerAt (stateOf (now (reader .entry))))) (now (reader .entry))) × (now (out .exit) ≡ putTaken (take (now (mem .entry)) (readerAt (stateOf (now (reader .entry))))) (now (out .entry))) ⌝ }
+{
+    let state = state(reader);
+    let taken = EventReader { state }.take(mem);
+    let answer = taken.answer;
+    match answer {
+        Take::Nothing => NOTHING,
+        Take::Refused(number) => number,
+        Take::Event => {
+            let after = taken.reader.state;
+            let trb = taken.trb;
+            put(reader, after);
+            *out = [guest::low(trb), guest::high(trb)];
+            0
+        }
+    }
+}
+
+// Takes the event that stands in the reader's slot, if the slot is fresh: 0, with the event's halves in `out`; 255 where it is not. The
+// usual case, in which the reader goes on in its segment, is done here; all else by `take`.
+#[no_mangle]
+pub extern "C" fn lomvigast_take(mem: &[u8], reader: &mut CEventRing, out: &mut [u64; 2]) -> u8
+    ensures { λ r. ⌜ (r ≡ takeNumber (take (now (mem .entry)) (readerAt (stateOf (now (reader .entry)))) .answer)) × (now (reader .exit) ≡ takenFrom (take (now (mem .entry)) (readerAt (stateOf (now (reader .entry))))) (now (reader .entry))) × (now (out .exit) ≡ putTaken (take (now (mem .entry)) (readerAt (stateOf (now (reader .entry))))) (now (out .entry))) ⌝ }
+{
+    let place = reader[PLACE];
+    if !plain(reader) {
+        return take(mem, reader, out);
+    }
+    if !guest::inside(mem, place, 16) {
+        return take(mem, reader, out);
+    }
+    let d3 = crate::memory::four(mem, std::num::wrapping_add_u64(place, 12));
+    if d3 % 2 != reader[CYCLE] {
+        return NOTHING;
+    }
+    let remaining = reader[REMAINING] - 1;
+    let high = crate::memory::eight(mem, std::num::wrapping_add_u64(place, 8));
+    *out = [crate::memory::eight(mem, place), high];
+    step(reader, place + 16, remaining);
+    0
 }

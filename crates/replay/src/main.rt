@@ -1,7 +1,7 @@
 // Runs the answers of usbvfiod's own code, recorded in the file stdin, against the core, and writes how many agree.
 //
-// A line is a letter for its kind, the input, a colon and the answer; the head of the file says the forms. The answer of the core is
-// put into the same text, and the two texts are compared. A line that cannot be read differs.
+// A line is a letter for its kind, the input, a colon and the answer; the head of the file says the forms. The input as it was read and
+// the core's answer are put into the same text, and the two texts are compared: so a line that cannot be read differs.
 mod answer;
 mod input;
 mod rings;
@@ -9,234 +9,203 @@ mod trbs;
 
 use libc::STDIN_FILENO;
 use libc::STDOUT_FILENO;
-use rings::Outcome;
-use rings::Setting;
+use lomvigast_ffi::rings::CEventRing;
 ghost use mathlib.Core.Path.{_≡_};
 ghost use lib.ListN.{length};
 
 // How many differing lines are shown.
 const SHOWN: u64 = 10;
 
-// How many lines of each kind agree, by the kind's letter modulo 32; and, at places that no letter has, how many cases agree and how
-// many lines differ.
+// How many lines of each kind agree, by the kind's letter modulo 32; and, at places that no letter has, how many cases agree, how many
+// lines agree that are none, how many lines were read, how many cases, and how many lines differ.
 type Counts = [u64; 32];
 
 const AGREE: u8 = 0;
 
+const NO_CASE: u8 = 28;
+
+const LINES: u8 = 29;
+
+const CASES: u8 = 30;
+
 const DIFFER: u8 = 31;
 
-fn text(t: &[u8]) {
-    io::write_all(STDOUT_FILENO, t);
-}
-
-fn number(label: &[u8], n: u64) {
-    text(label);
-    io::print_decimal(STDOUT_FILENO, n);
-}
-
-fn one_more(n: u64) -> u64 {
-    std::num::wrapping_add_u64(n, 1)
-}
-
-// A line's kind; 0 for an empty line.
-fn letter(line: &[u8]) -> u8 {
-    if line.len() == 0 {
-        return 0;
-    }
-    line[0]
-}
-
-fn without_memory(letter: u8, line: &[u8], out: &mut [u8]) -> usize {
-    match letter {
-        b'C' => trbs::command(line, out),
-        b'T' => trbs::transfer(line, out),
-        b'L' => trbs::link(line, out),
-        b'E' => trbs::event_bytes(line, out),
-        b'S' => rings::step(line, out),
-        _ => 0,
-    }
-}
-
-fn with_memory(
-    setting: Setting,
-    letter: u8,
-    line: &[u8],
-    memory: &mut [u8],
-    out: &mut [u8],
-) -> Outcome {
-    match letter {
-        b'P' => setting.kept(rings::poke(line, memory)),
-        b'N' => setting.kept(rings::chase(line, memory, out)),
-        b'G' => rings::configure(setting, line, memory, out),
-        b'A' => rings::add(setting, line, memory, out),
-        _ => setting.kept(without_memory(letter, line, out)),
-    }
-}
-
-fn outcome(
-    setting: Setting,
-    letter: u8,
-    line: &[u8],
-    memory: &mut [u8],
-    out: &mut [u8],
-) -> Outcome {
-    if letter == b'M' {
-        return rings::make(setting, line, memory);
-    }
-    let length = setting.length;
-    if memory.len() < length {
-        return setting.kept(0);
-    }
-    with_memory(setting, letter, line, &mut memory[0..length], out)
-}
-
-// The core's answer to a line: its text, behind the colon, in `out`.
-fn answered(setting: Setting, line: &[u8], memory: &mut [u8], out: &mut [u8]) -> Outcome {
-    if line.len() == 0 {
-        return setting.kept(0);
-    }
-    let colon = bytes::scan::find(line, 1, line.len(), b':');
-    outcome(setting, line[0], &line[1..colon], memory, out)
-}
-
-// Whether what stands from the colon on is the answer's text.
-fn agrees(line: &[u8], out: &[u8], end: usize) -> bool {
-    if end == 0 {
-        return false;
-    }
-    if out.len() < end {
-        return false;
-    }
-    let colon = bytes::scan::find(line, 0, line.len(), b':');
-    check::same(&line[colon..], &out[0..end])
-}
-
-// Shows a line as it stands in the file, and the answer's text, of which there is none where the line cannot be read.
-fn show(number_of_line: u64, line: &[u8], out: &[u8], end: usize) {
-    number(b"line ", number_of_line);
-    text(b" differs: ");
-    text(line);
-    text(b"; got");
-    if end <= out.len() {
-        text(&out[0..end]);
-    }
-    text(b"\n");
-}
-
-fn count(counts: &mut Counts, letter: u8) {
-    let kind = (letter % 32) as usize;
-    counts[kind] = one_more(counts[kind]);
-}
-
-// Counts a line that agrees. M and P lines make what the cases are run on, and are none.
-fn count_agreeing(counts: &mut Counts, letter: u8) {
-    count(counts, letter);
-    match letter {
-        b'M' | b'P' => {}
-        _ => count(counts, AGREE),
-    }
-}
-
-fn compare(number_of_line: u64, line: &[u8], out: &[u8], end: usize, counts: &mut Counts) {
-    if agrees(line, out, end) {
-        count_agreeing(counts, letter(line));
-        return;
-    }
-    if counted(counts, DIFFER) < SHOWN {
-        show(number_of_line, line, out, end);
-    }
-    count(counts, DIFFER);
-}
-
-// Room for an answer, of which the colon stands there.
-fn answer_room() -> [u8; 160]
-    ensures { λ r. ⌜ 160 ≡ length r ⌝ }
-{
-    let mut out = [0u8; 160];
-    out[0] = b':';
-    out
-}
-
-fn next_line(
-    setting: Setting,
-    number_of_line: u64,
-    line: &[u8],
-    memory: &mut [u8],
-    counts: &mut Counts,
-) -> Setting {
-    if letter(line) == b'#' {
-        return setting;
-    }
-    let mut out = answer_room();
-    let outcome = answered(setting, line, memory, &mut out);
-    compare(number_of_line, line, &out, outcome.end, counts);
-    outcome.setting
-}
-
-fn all_lines(text: &[u8], memory: &mut [u8], counts: &mut Counts) {
-    let mut setting = Setting::new(0);
-    let mut number_of_line = 0;
-    let mut at = 0;
-    while at < text.len() {
-        let end = bytes::scan::find(text, at, text.len(), b'\n');
-        number_of_line = one_more(number_of_line);
-        setting = next_line(setting, number_of_line, &text[at..end], memory, counts);
-        at = end + 1;
-    }
-}
-
-fn counted(counts: &Counts, letter: u8) -> u64 {
-    counts[(letter % 32) as usize]
-}
-
-fn kind(counts: &Counts, letter: u8, name: &[u8]) {
-    number(name, counted(counts, letter));
-    text(b"\n");
-}
-
-fn kinds(counts: &Counts) {
-    kind(counts, b'C', b"C commands parsed: ");
-    kind(counts, b'T', b"T transfer TRBs parsed: ");
-    kind(counts, b'L', b"L links parsed: ");
-    kind(counts, b'E', b"E events written: ");
-    kind(counts, b'S', b"S steps of a linked ring: ");
-    kind(counts, b'N', b"N chases: ");
-    kind(counts, b'G', b"G event rings configured: ");
-    kind(counts, b'A', b"A events added: ");
-    kind(counts, b'M', b"M memories made for them: ");
-    kind(counts, b'P', b"P TRBs put into these: ");
-}
-
-fn totals(agree: u64, differ: u64) {
-    number(b"replay: ", std::num::wrapping_add_u64(agree, differ));
-    number(b" cases read, ", agree);
-    number(b" agree, ", differ);
-    text(b" differ\n");
-}
-
-// Room for the file, and for the memory of a line. The lengths are all that a caller knows of them.
-
-fn file_room() -> [u8; 0x10_0000]
+// Room for the file, and for the memory of a line. The length is all that a caller knows of it.
+fn room() -> [u8; 0x10_0000]
     ensures { λ r. ⌜ 0x100000 ≡ length r ⌝ }
 {
     [0u8; 0x10_0000]
 }
 
-fn memory_room() -> [u8; 0x1_1000]
-    ensures { λ r. ⌜ 0x11000 ≡ length r ⌝ }
-{
-    [0u8; 0x1_1000]
+fn count(counts: &mut Counts, place: u8) {
+    let at = (place % 32) as usize;
+    counts[at] = std::num::wrapping_add_u64(counts[at], 1);
+}
+
+fn show(label: &[u8], counts: &Counts, place: u8) {
+    io::write_all(STDOUT_FILENO, label);
+    io::print_decimal(STDOUT_FILENO, counts[(place % 32) as usize]);
+}
+
+// The forms of a line's input and answer (answer.rt).
+pub struct LineForms {
+    pub input: u64,
+    pub answer: u64,
+}
+
+fn forms(letter: u8) -> LineForms {
+    let input = match letter {
+        b'C' | b'T' | b'L' => 0x0ab0_0000_0000_000d,
+        b'E' => 0x0298_2122_2100_000d,
+        b'S' | b'N' => 0x0910_0000_0000_000d,
+        b'M' => 0x0900_0000_0000_000d,
+        b'P' => 0x09ab_0000_0000_000d,
+        b'G' => 0x0940_0000_0000_000d,
+        b'A' => 0x0298_2122_2900_000d,
+        _ => 0,
+    };
+    let answer = match letter {
+        b'C' | b'N' => 0x9999_9999_0000_0ab0,
+        b'T' => 0x9999_9999_9999_9ab0,
+        b'L' | b'G' => 0x9999_9000_0000_0000,
+        b'E' => 0x9000_0000_0000_0ab0,
+        b'S' => 0x9900_0000_0000_0000,
+        b'P' => 0xc000_0000_0000_0000,
+        b'A' => 0x9999_9900_0000_0000,
+        _ => 0,
+    };
+    LineForms { input, answer }
+}
+
+// The numbers of a line's answer.
+fn run(letter: u8, given: &[u64; 16], memory: &mut [u8], ring: &mut CEventRing) -> [u64; 16] {
+    match letter {
+        b'E' => trbs::event_bytes(given),
+        b'S' | b'N' => rings::linked(letter, given, memory),
+        b'M' => rings::make(memory, ring),
+        b'P' => rings::poke(given, memory),
+        b'G' => rings::configure(given, memory, ring),
+        b'A' => rings::add(given, memory, ring),
+        _ => trbs::parsed(letter, given),
+    }
+}
+
+// Counts a line that differs, and shows it and the core's.
+fn differ(line: &[u8], text: &[u8], counts: &mut Counts) {
+    if counts[31] < SHOWN {
+        show(b"line ", counts, LINES);
+        io::write_all(STDOUT_FILENO, b" differs: ");
+        io::write_all(STDOUT_FILENO, line);
+        io::write_all(STDOUT_FILENO, b"; got ");
+        io::write_all(STDOUT_FILENO, text);
+        io::write_all(STDOUT_FILENO, b"\n");
+    }
+    count(counts, DIFFER);
+}
+
+// Compares a line, and counts it. M and P lines make what the cases are run on, and are none.
+fn compare(letter: u8, line: &[u8], given: &[u64; 16], answer: &[u64; 16], counts: &mut Counts) {
+    let forms = forms(letter);
+    let mut text = [0u8; 256];
+    let start = answer::byte(&mut text, 0, letter);
+    let middle = answer::text(&mut text, start, forms.input, given);
+    let end = answer::text(&mut text, middle, forms.answer, answer) % 257;
+    if (forms.input == 0) | !check::same(line, &text[0..end]) {
+        differ(line, &text[0..end], counts);
+        return;
+    }
+    let case = match letter {
+        b'M' | b'P' => NO_CASE,
+        _ => AGREE,
+    };
+    count(counts, letter);
+    count(counts, case);
+}
+
+// Runs a line on a memory of this size, which an M line changes, and answers the size for the next.
+fn next_line(
+    line: &[u8],
+    size: usize,
+    memory: &mut [u8],
+    ring: &mut CEventRing,
+    counts: &mut Counts,
+) -> usize {
+    count(counts, LINES);
+    let letter = if line.len() == 0 { 0 } else { line[0] };
+    if letter == b'#' {
+        return size;
+    }
+    let given = input::numbers(line);
+    let now = if letter == b'M' {
+        given[1] as usize
+    } else {
+        size
+    };
+    if memory.len() < now {
+        differ(line, b"no memory", counts);
+        return size;
+    }
+    let answer = run(letter, &given, &mut memory[0..now], ring);
+    compare(letter, line, &given, &answer, counts);
+    now
+}
+
+fn all_lines(text: &[u8], memory: &mut [u8], counts: &mut Counts) {
+    let mut ring = [0u64; 7];
+    let mut size = 0;
+    let mut at = 0;
+    while at < text.len() {
+        let end = bytes::scan::find(text, at, text.len(), b'\n');
+        size = next_line(&text[at..end], size, memory, &mut ring, counts);
+        at = end + 1;
+    }
+}
+
+// Shows how many lines agree of each kind, the letter of which begins its label.
+fn kinds(labels: &[u8], counts: &Counts) {
+    let mut at = 0;
+    while at < labels.len() {
+        let end = bytes::scan::find(labels, at, labels.len(), b'\n');
+        io::write_all(STDOUT_FILENO, &labels[at..end]);
+        show(b": ", counts, labels[at]);
+        io::write_all(STDOUT_FILENO, b"\n");
+        at = end + 1;
+    }
+}
+
+fn totals(counts: &mut Counts) {
+    counts[30] = std::num::wrapping_add_u64(counts[0], counts[31]);
+    show(b"replay: ", counts, CASES);
+    show(b" cases read, ", counts, AGREE);
+    show(b" agree, ", counts, DIFFER);
+    io::write_all(STDOUT_FILENO, b" differ\n");
 }
 
 fn main() {
-    let mut file = file_room();
+    let mut file = room();
     let length = io::read_full(STDIN_FILENO, &mut file);
     if length == file.len() {
-        text(b"the file may be longer than what was read\n");
+        io::write_all(
+            STDOUT_FILENO,
+            b"the file may be longer than what was read\n",
+        );
     }
-    let mut memory = memory_room();
+    let mut memory = room();
     let mut counts = [0u64; 32];
     all_lines(&file[..length], &mut memory, &mut counts);
-    kinds(&counts);
-    totals(counted(&counts, AGREE), counted(&counts, DIFFER));
+    kinds(
+        b"C commands parsed
+T transfer TRBs parsed
+L links parsed
+E events written
+S steps of a linked ring
+N chases
+G event rings configured
+A events added
+M memories made for them
+P TRBs put into these
+",
+        &counts,
+    );
+    totals(&mut counts);
 }

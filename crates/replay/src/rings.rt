@@ -1,152 +1,77 @@
-// Lines about guest memory and the rings in it.
-use crate::answer;
-use crate::input::Cursor;
+// Lines about guest memory and the rings in it. Each function answers the numbers of the line's answer; a TRB's halves are 13 and 14.
+use crate::input::swapped;
 use crate::trbs;
 use lomvigast_ffi::linked;
 use lomvigast_ffi::memory;
 use lomvigast_ffi::rings;
 use lomvigast_ffi::rings::CEventRing;
-use lomvigast_ffi::rings::CMoved;
 
-// What the lines before have made: the memory's length and the event ring.
-pub struct Setting {
-    pub length: usize,
-    pub ring: CEventRing,
-}
-
-// Where the answer's text ends, 0 for a line that cannot be read; and the setting afterwards.
-pub struct Outcome {
-    pub end: usize,
-    pub setting: Setting,
-}
-
-impl Setting {
-    pub(crate) fn new(length: usize) -> Self {
-        Setting {
-            length,
-            ring: rings::lomvigast_new_ring(),
-        }
-    }
-
-    // The setting as it was, beside an answer.
-    pub(crate) fn kept(self, end: usize) -> Outcome {
-        Outcome { end, setting: self }
-    }
-
-    // The setting with the ring moved, beside an answer.
-    fn moved(self, end: usize, moved: CMoved) -> Outcome {
-        let ring = moved.ring;
-        Outcome {
-            end,
-            setting: Setting {
-                length: self.length,
-                ring,
-            },
-        }
-    }
-}
-
-fn clear(memory: &mut [u8]) {
+// A memory of zeros and a new event ring.
+pub(crate) fn make(memory: &mut [u8], ring: &mut CEventRing) -> [u64; 16] {
     for i in 0..memory.len() {
         memory[i] = 0;
     }
-}
-
-// A memory of zeros and a new event ring.
-pub(crate) fn make(setting: Setting, line: &[u8], memory: &mut [u8]) -> Outcome {
-    let length = Cursor::new().number(line, memory.len() as u64);
-    if !length.ended(line) {
-        return setting.kept(0);
-    }
-    clear(memory);
-    Setting::new(length.value as usize).kept(1)
+    rings::lomvigast_reset(ring);
+    [0u64; 16]
 }
 
 // Sixteen bytes put into memory.
-pub(crate) fn poke(line: &[u8], memory: &mut [u8]) -> usize {
-    let address = Cursor::new().number(line, u64::MAX);
-    let given = address.trb(line);
-    let cursor = given.cursor;
-    if !cursor.ended(line) {
-        return 0;
-    }
-    let trb = given.trb;
-    if memory::lomvigast_write_trb(memory, address.value, &trb) != 0 {
-        return 0;
-    }
-    1
+pub(crate) fn poke(given: &[u64; 16], memory: &mut [u8]) -> [u64; 16] {
+    let low = swapped(given[2]);
+    let high = swapped(given[3]);
+    let mut v = [0u64; 16];
+    v[0] = memory::lomvigast_write_trb(memory, given[1], low, high) as u64;
+    v
 }
 
-pub(crate) fn step(line: &[u8], out: &mut [u8]) -> usize {
-    let place = Cursor::new().number(line, u64::MAX);
-    let cycle = place.flag(line);
-    if !cycle.ended(line) {
-        return 0;
+// A linked ring set to a place, then, on an S line, advanced, and, on an N line, asked for its next TRB.
+pub(crate) fn linked(letter: u8, given: &[u64; 16], memory: &[u8]) -> [u64; 16] {
+    let mut ring = [0u64; 2];
+    linked::lomvigast_set_place(&mut ring, given[1], given[2] == 1);
+    let mut v = [0u64; 16];
+    if letter == b'S' {
+        linked::lomvigast_advance(&mut ring);
+        v[0] = ring[0];
+        v[1] = ring[1];
+        return v;
     }
-    let ring = linked::lomvigast_advance(place.value, cycle.is_set());
-    answer::numbers(out, 1, &[ring.place, ring.cycle as u64])
+    let c = linked::lomvigast_next_trb(memory, &mut ring);
+    v[0] = c.kind % 0x100;
+    v[1] = c.kind / 0x100;
+    v[2] = c.address;
+    v[3] = ring[0];
+    v[4] = ring[1];
+    v[5] = c.notes % 0x1_0000;
+    v[6] = c.notes / 0x1_0000 % 0x100;
+    v[7] = c.notes / 0x100_0000;
+    v[13] = swapped(c.low);
+    v[14] = swapped(c.high);
+    v
 }
 
-pub(crate) fn chase(line: &[u8], memory: &[u8], out: &mut [u8]) -> usize {
-    let place = Cursor::new().number(line, u64::MAX);
-    let cycle = place.flag(line);
-    if !cycle.ended(line) {
-        return 0;
-    }
-    let c = linked::lomvigast_next_trb(memory, place.value, cycle.is_set());
-    let values = [
-        c.kind as u64,
-        c.refusal as u64,
-        c.address,
-        c.place,
-        c.cycle as u64,
-        c.links as u64,
-        c.cleared as u64,
-        c.completion as u64,
-    ];
-    let trb = c.trb;
-    answer::numbers_and_trb(out, &values, trb)
+// The refusal and the ring's state, and the memory's sum.
+fn state(refusal: u8, ring: &CEventRing, sum: u64) -> [u64; 16] {
+    let mut v = [0u64; 16];
+    v[0] = refusal as u64;
+    v[1] = ring[3];
+    v[2] = ring[1];
+    v[3] = ring[2];
+    v[4] = ring[6];
+    v[5] = sum;
+    v
 }
 
-// The refusal and the ring's state.
-fn moved_text(out: &mut [u8], moved: CMoved) -> usize {
-    let ring = moved.ring;
-    let values = [
-        moved.refusal as u64,
-        ring.index as u64,
-        ring.place,
-        ring.remaining as u64,
-        ring.cycle as u64,
-    ];
-    answer::numbers(out, 1, &values)
+pub(crate) fn configure(given: &[u64; 16], memory: &[u8], ring: &mut CEventRing) -> [u64; 16] {
+    let entries = (given[2] % 0x1_0000) as u16;
+    let refusal = rings::lomvigast_configure(memory, ring, given[1], entries);
+    state(refusal, ring, 0)
 }
 
-pub(crate) fn configure(setting: Setting, line: &[u8], memory: &[u8], out: &mut [u8]) -> Outcome {
-    let table = Cursor::new().number(line, u64::MAX);
-    let entries = table.number(line, 0xffff);
-    if !entries.ended(line) {
-        return setting.kept(0);
-    }
-    let r = setting.ring;
-    let moved = rings::lomvigast_configure(
-        memory,
-        r.table,
-        r.place,
-        r.remaining,
-        r.entries,
-        r.index,
-        r.ready,
-        r.cycle,
-        table.value,
-        entries.as_u16(),
-    );
-    setting.moved(moved_text(out, moved), moved)
-}
-
-// FNV-1a's product with its prime, 2^40 + 0x1b3, modulo 2^64: by the shift, the high and the low half.
-fn times_prime(n: u64) -> u64 {
+// FNV-1a's step: the product of what is summed and the prime, 2^40 + 0x1b3, modulo 2^64, by the shift, the high and the low half.
+fn fnv(sum: u64, b: u8) -> u64 {
+    let n = sum ^ (b as u64);
     let shifted = n % 0x100_0000 * 0x100_0000_0000;
-    let high = n / 0x1_0000_0000 * 0x1b3 % 0x1_0000_0000 * 0x1_0000_0000;
+    let high = n / 0x1_0000_0000 % 0x1_0000_0000 * 0x1b3 % 0x1_0000_0000 * 0x1_0000_0000;
     let low = n % 0x1_0000_0000 * 0x1b3;
     std::num::wrapping_add_u64(std::num::wrapping_add_u64(shifted, high), low)
 }
@@ -155,33 +80,13 @@ fn times_prime(n: u64) -> u64 {
 fn checksum(memory: &[u8]) -> u64 {
     let mut sum: u64 = 0xcbf2_9ce4_8422_2325;
     for i in 0..memory.len() {
-        sum = times_prime(sum ^ answer::wide(memory[i]));
+        sum = fnv(sum, memory[i]);
     }
     sum
 }
 
-pub(crate) fn add(setting: Setting, line: &[u8], memory: &mut [u8], out: &mut [u8]) -> Outcome {
-    let given = trbs::event(line);
-    let cursor = given.cursor;
-    let report = cursor.number(line, u64::MAX);
-    if !report.ended(line) {
-        return setting.kept(0);
-    }
-    let r = setting.ring;
-    let event = given.event;
-    let moved = rings::lomvigast_add(
-        memory,
-        r.table,
-        r.place,
-        r.remaining,
-        r.entries,
-        r.index,
-        r.ready,
-        r.cycle,
-        event,
-        report.value,
-    );
-    let at = moved_text(out, moved);
-    let end = answer::numbers(out, at, &[checksum(memory)]);
-    setting.moved(end, moved)
+pub(crate) fn add(given: &[u64; 16], memory: &mut [u8], ring: &mut CEventRing) -> [u64; 16] {
+    let event = trbs::event(given);
+    let refusal = rings::lomvigast_add(memory, ring, &event, given[9]);
+    state(refusal, ring, checksum(memory))
 }

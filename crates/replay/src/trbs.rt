@@ -1,120 +1,150 @@
-// Lines about single TRBs: the parsers, and events written. Each function answers where its text ends, 0 for a line that cannot be read.
-use crate::answer;
-use crate::input::Cursor;
-use lomvigast_ffi::events;
-use lomvigast_ffi::events::CEvent;
+// Lines about single TRBs: the parsers, and events written. Each function answers the numbers of the line's answer; a TRB's halves are 13
+// and 14. Of a word's fields the last is taken with all above it, so that what should be 0 there shows.
+use crate::input::swapped;
 use trb_ffi::commands;
+use trb_ffi::events;
 use trb_ffi::parts;
 use trb_ffi::transfers;
 
-pub(crate) fn command(line: &[u8], out: &mut [u8]) -> usize {
-    let given = Cursor::new().trb(line);
-    let cursor = given.cursor;
-    if !cursor.ended(line) {
-        return 0;
-    }
-    let trb = given.trb;
-    let parsed = commands::lomvigast_parse_command(&trb);
-    let c = parsed.command;
-    let values = [
-        parsed.refusal as u64,
-        c.kind as u64,
-        c.pointer,
-        c.stream as u64,
-        c.flag as u64,
-        c.context_type as u64,
-        c.endpoint as u64,
-        c.slot as u64,
-    ];
-    let raw = parsed.raw;
-    answer::numbers_and_trb(out, &values, raw)
+// The refusal that the words hold, the type beside it, and the TRB, whose bytes stand from byte 1 on.
+fn refused(a: u64, b: u64, c: u64) -> [u64; 16] {
+    let mut v = [0u64; 16];
+    v[0] = c / 0x100 % 0x100;
+    v[1] = c / 0x1_0000;
+    v[13] = swapped(a / 0x100 % 0x100_0000_0000_0000 + b % 0x100 * 0x100_0000_0000_0000);
+    v[14] = swapped(b / 0x100 % 0x100_0000_0000_0000 + c % 0x100 * 0x100_0000_0000_0000);
+    v
 }
 
-pub(crate) fn transfer(line: &[u8], out: &mut [u8]) -> usize {
-    let given = Cursor::new().trb(line);
-    let cursor = given.cursor;
-    if !cursor.ended(line) {
-        return 0;
+fn command(low: u64, high: u64) -> [u64; 16] {
+    let mut words = [0u64; 3];
+    commands::lomvigast_parse_command(&mut words, low, high);
+    let a = words[0];
+    let b = words[1];
+    let c = words[2];
+    let mut v = [0u64; 16];
+    v[1] = a % 0x100;
+    match a % 0x100 {
+        0 => return refused(a, b, c),
+        10 | 17 => {
+            v[7] = a / 0x100;
+        }
+        11..=13 => {
+            v[2] = b;
+            v[4] = c / 0x100;
+            v[7] = c % 0x100;
+        }
+        14 | 15 => {
+            v[6] = a / 0x100 % 0x100;
+            v[7] = a / 0x1_0000;
+        }
+        16 => {
+            v[2] = b;
+            v[3] = c % 0x1_0000;
+            v[4] = c / 0x1_0000_0000 % 0x100;
+            v[5] = c / 0x100_0000_0000;
+            v[6] = c / 0x1_0000 % 0x100;
+            v[7] = c / 0x100_0000 % 0x100;
+        }
+        _ => {}
     }
-    let trb = given.trb;
-    let parsed = transfers::lomvigast_parse_transfer(&trb);
-    let t = parsed.transfer;
-    let values = [
-        parsed.refusal as u64,
-        t.kind as u64,
-        t.pointer,
-        t.length as u64,
-        t.value as u64,
-        t.index as u64,
-        t.request_type as u64,
-        t.request as u64,
-        t.short as u64,
-        t.chain as u64,
-        t.completion as u64,
-        t.immediate as u64,
-        t.direction as u64,
-    ];
-    let raw = parsed.raw;
-    answer::numbers_and_trb(out, &values, raw)
+    v
 }
 
-pub(crate) fn link(line: &[u8], out: &mut [u8]) -> usize {
-    let given = Cursor::new().trb(line);
-    let cursor = given.cursor;
-    if !cursor.ended(line) {
-        return 0;
+fn transfer(low: u64, high: u64) -> [u64; 16] {
+    let mut words = [0u64; 4];
+    transfers::lomvigast_parse_transfer(&mut words, low, high);
+    let a = words[0];
+    let b = words[1];
+    let c = words[2];
+    let mut v = [0u64; 16];
+    v[1] = a % 0x100;
+    match a % 0x100 {
+        0 => return refused(a, b, c),
+        1 | 3 => {
+            v[2] = b;
+            v[3] = c % 0x1_0000_0000;
+            v[8] = c / 0x100_0000_0000_0000;
+            v[9] = c / 0x1_0000_0000 % 0x100;
+            v[10] = c / 0x100_0000_0000 % 0x100;
+            v[11] = c / 0x1_0000_0000_0000 % 0x100;
+            v[12] = words[3];
+        }
+        2 => {
+            v[3] = b % 0x1_0000;
+            v[4] = a / 0x1_0000_0000 % 0x1_0000;
+            v[5] = a / 0x1_0000_0000_0000;
+            v[6] = a / 0x1_0000 % 0x100;
+            v[7] = a / 0x100_0000 % 0x100;
+            v[10] = b / 0x1_0000;
+        }
+        _ => {
+            v[2] = b;
+            v[9] = a / 0x100 % 0x100 + c % 0x100;
+            v[10] = a / 0x1_0000 % 0x100 + c / 0x100 % 0x100;
+            v[12] = a / 0x100_0000;
+        }
     }
-    let trb = given.trb;
-    let l = parts::lomvigast_parse_link(&trb);
-    let values = [
-        l.link as u64,
-        l.pointer,
-        l.cleared as u64,
-        l.toggle as u64,
-        l.completion as u64,
-    ];
-    answer::numbers(out, 1, &values)
+    v
 }
 
-// An event that a line holds, and the place behind it.
-pub struct ReadEvent {
-    pub cursor: Cursor,
-    pub event: CEvent,
-}
-
-pub(crate) fn event(line: &[u8]) -> ReadEvent {
-    let kind = Cursor::new().number(line, 0xff);
-    let pointer = kind.number(line, u64::MAX);
-    let length = pointer.number(line, 0xffff_ffff);
-    let code = length.number(line, 0xff);
-    let event_data = code.flag(line);
-    let endpoint = event_data.number(line, 0xff);
-    let slot = endpoint.number(line, 0xff);
-    let port = slot.number(line, 0xff);
-    ReadEvent {
-        cursor: port,
-        event: CEvent {
-            pointer: pointer.value,
-            length: length.as_u32(),
-            kind: kind.as_byte(),
-            code: code.as_byte(),
-            event_data: event_data.is_set(),
-            endpoint: endpoint.as_byte(),
-            slot: slot.as_byte(),
-            port: port.as_byte(),
-        },
+// What the parser of a C, T or L line says of a TRB.
+pub(crate) fn parsed(letter: u8, given: &[u64; 16]) -> [u64; 16] {
+    let low = swapped(given[1]);
+    let high = swapped(given[2]);
+    match letter {
+        b'C' => command(low, high),
+        b'T' => transfer(low, high),
+        _ => {
+            let l = parts::lomvigast_parse_link(low, high);
+            let mut v = [0u64; 16];
+            v[0] = l.link as u64;
+            v[1] = l.pointer;
+            v[2] = l.cleared as u64;
+            v[3] = l.toggle as u64;
+            v[4] = l.completion as u64;
+            v
+        }
     }
 }
 
-pub(crate) fn event_bytes(line: &[u8], out: &mut [u8]) -> usize {
-    let given = event(line);
-    let cursor = given.cursor;
-    let cycle = cursor.flag(line);
-    if !cycle.ended(line) {
-        return 0;
+// The words of the event that a line holds. A Port Status Change has the code 1, which they do not say: with another there is no event.
+pub(crate) fn event(given: &[u64; 16]) -> [u64; 3] {
+    let kind = given[1];
+    let code = given[4] % 0x100;
+    let coded = given[3] % 0x1_0000_0000 + code * 0x1_0000_0000;
+    let slot = given[7] % 0x100;
+    match kind {
+        32 => {
+            let flag = given[5] % 2 * 0x100_0000_0000;
+            let endpoint = given[6] % 0x100 * 0x1_0000_0000_0000;
+            [
+                32,
+                given[2],
+                coded + flag + endpoint + slot * 0x100_0000_0000_0000,
+            ]
+        }
+        33 => [33, given[2], coded + slot * 0x100_0000_0000],
+        34 => {
+            if code != 1 {
+                return [0, 0, 0];
+            }
+            [34 + given[8] % 0x100 * 0x100, 0, 0]
+        }
+        _ => [0, 0, 0],
     }
-    let event = given.event;
-    let written = events::lomvigast_event_bytes(event, cycle.is_set());
-    let trb = written.trb;
-    answer::numbers_and_trb(out, &[written.refusal as u64], trb)
+}
+
+pub(crate) fn event_bytes(given: &[u64; 16]) -> [u64; 16] {
+    let event = event(given);
+    let cycle = if given[9] == 1 { 1 } else { 0 };
+    let written = events::lomvigast_event_bytes(&event, cycle);
+    let mut v = [0u64; 16];
+    if written.high < 0x100 {
+        v[0] = written.high;
+        return v;
+    }
+    v[13] = swapped(written.low);
+    v[14] = swapped(written.high);
+    v
 }

@@ -162,7 +162,7 @@ fits t v =
     let p = both (eqb (bits (t .«command_trb_pointer») 0 4) 0) _ v in
     record { aligned = eqb-true _ 0 (p .0); short = ltb-true _ (2 ^ 24) (p .1) }
 
-dwords-sized : (e : EventTrb) (c : Bool) → Typed e → valid e ≡ true → Sized (eventDwords e c)
+pub dwords-sized : (e : EventTrb) (c : Bool) → Typed e → valid e ≡ true → Sized (eventDwords e c)
 unfolding valid eventDwords numberOf
 dwords-sized (EventTrb.Transfer t) c y v =
     record {

@@ -1,40 +1,34 @@
--- Commands, flat. What a command does not have is 0.
-use Prim.Native.Nat.{ℕ}
-use mathlib.Core.Bool.{Bool, false}
+-- A command as the three words of Rust's enum: byte 0 is the type, 0 for a refusal. A record of bytes alone starts at byte 1, one with a
+-- pointer at byte 8.
+use Prim.Native.Nat.{ℕ, _+_, _*_, _/_, _%_, _^_}
+use mathlib.Core.List.{List}
 use Rattle.codes.specs.Types as types
-use Rattle.trb.specs.Commands.{numberOf}
+use Rattle.trb.specs.Trb.{bit}
 use Rattle.trb.specs.declared.command.CommandTrbVariant.{CommandTrbVariant}
-use Rattle.trb.specs.declared.command.ParsedCommand.{ParsedCommand}
-use Rattle.trb_ffi.specs.declared.commands.CCommand.{CCommand}
-use Rattle.trb_ffi.specs.declared.commands.CParsedCommand.{CParsedCommand}
+use Rattle.words.specs.Lent.{one, three}
 
--- type, pointer, flag, stream context type, stream id, endpoint id, slot id
-abbrev pub row : ℕ → ℕ → Bool → ℕ → ℕ → ℕ → ℕ → CCommand
-row t p b k n e s =
-    record { pointer = p; stream = n; kind = t; flag = b; «context_type» = k; endpoint = e; slot = s }
+-- the sixteen bytes from byte 1 on, then the refusal's number and the type beside it
+abbrev pub refused : ℕ → ℕ → ℕ → ℕ → List ℕ → List ℕ
+refused low high number type =
+    three (low % 2 ^ 56 * 2 ^ 8) (low / 2 ^ 56 + high % 2 ^ 56 * 2 ^ 8) (high / 2 ^ 56 + number * 2 ^ 8 + type * 2 ^ 16)
 
-abbrev pub plain : ℕ → ℕ → ℕ → CCommand
-plain t e s = row t 0 false 0 0 e s
-
--- beside a refusal, the type that document 01 shows there
-abbrev pub flatCommand : CommandTrbVariant → CCommand
-flatCommand CommandTrbVariant.NoOp = plain types.noOpCommand 0 0
-flatCommand CommandTrbVariant.EnableSlot = plain types.enableSlot 0 0
-flatCommand (CommandTrbVariant.DisableSlot d) = plain types.disableSlot 0 (d .«slot_id»)
-flatCommand (CommandTrbVariant.AddressDevice d) =
-    row types.addressDevice (d .«input_context_pointer») (d .«block_set_address_request») 0 0 0 (d .«slot_id»)
-flatCommand (CommandTrbVariant.ConfigureEndpoint d) =
-    row types.configureEndpoint (d .«input_context_pointer») (d .deconfigure) 0 0 0 (d .«slot_id»)
-flatCommand (CommandTrbVariant.EvaluateContext d) =
-    row types.evaluateContext (d .«input_context_pointer») false 0 0 0 (d .«slot_id»)
-flatCommand (CommandTrbVariant.ResetEndpoint d) = plain types.resetEndpoint (d .«endpoint_id») (d .«slot_id»)
-flatCommand (CommandTrbVariant.StopEndpoint d) = plain types.stopEndpoint (d .«endpoint_id») (d .«slot_id»)
-flatCommand (CommandTrbVariant.SetTrDequeuePointer d) =
-    row types.setTrDequeuePointer (d .«dequeue_pointer») (d .«dequeue_cycle_state») (d .«stream_context_type»)
-    (d .«stream_id») (d .«endpoint_id») (d .«slot_id»)
-flatCommand (CommandTrbVariant.ResetDevice d) = plain types.resetDevice 0 (d .«slot_id»)
-flatCommand CommandTrbVariant.ForceHeader = plain types.forceHeader 0 0
-flatCommand (CommandTrbVariant.Unrecognized e) = plain (e .«trb_type») 0 0
-
-abbrev pub flatParsed : ParsedCommand → CParsedCommand
-flatParsed p = record { refusal = numberOf (p .variant); command = flatCommand (p .variant); raw = p .raw }
+abbrev pub put : CommandTrbVariant → ℕ → ℕ → List ℕ → List ℕ
+put CommandTrbVariant.NoOp low high = one types.noOpCommand
+put CommandTrbVariant.EnableSlot low high = one types.enableSlot
+put (CommandTrbVariant.DisableSlot d) low high = one (types.disableSlot + d .«slot_id» * 2 ^ 8)
+put (CommandTrbVariant.AddressDevice d) low high =
+    three types.addressDevice (d .«input_context_pointer») (d .«slot_id» + bit (d .«block_set_address_request») * 2 ^ 8)
+put (CommandTrbVariant.ConfigureEndpoint d) low high =
+    three types.configureEndpoint (d .«input_context_pointer») (d .«slot_id» + bit (d .deconfigure) * 2 ^ 8)
+put (CommandTrbVariant.EvaluateContext d) low high = three types.evaluateContext (d .«input_context_pointer») (d .«slot_id»)
+put (CommandTrbVariant.ResetEndpoint d) low high =
+    one (types.resetEndpoint + d .«endpoint_id» * 2 ^ 8 + d .«slot_id» * 2 ^ 16)
+put (CommandTrbVariant.StopEndpoint d) low high =
+    one (types.stopEndpoint + d .«endpoint_id» * 2 ^ 8 + d .«slot_id» * 2 ^ 16)
+put (CommandTrbVariant.SetTrDequeuePointer d) low high =
+    three types.setTrDequeuePointer (d .«dequeue_pointer»)
+    (d .«stream_id» + d .«endpoint_id» * 2 ^ 16 + d .«slot_id» * 2 ^ 24
+    + bit (d .«dequeue_cycle_state») * 2 ^ 32 + d .«stream_context_type» * 2 ^ 40)
+put (CommandTrbVariant.ResetDevice d) low high = one (types.resetDevice + d .«slot_id» * 2 ^ 8)
+put CommandTrbVariant.ForceHeader low high = one types.forceHeader
+put (CommandTrbVariant.Unrecognized e) low high = refused low high (e .number) (e .«trb_type»)

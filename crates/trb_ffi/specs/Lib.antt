@@ -1,4 +1,4 @@
 pub mod Commands
+pub mod Transfers
 pub mod Numbers
 pub mod Parts
-pub mod Transfers

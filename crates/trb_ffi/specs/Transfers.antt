@@ -1,67 +1,34 @@
--- The TRBs of a transfer ring, flat. What a TRB does not have is 0.
-use Prim.Native.Nat.{ℕ}
-use mathlib.Core.Bool.{Bool, false}
+-- A TRB of a transfer ring as the four words of Rust's enum: byte 0 is the type, 0 for a refusal. A record of bytes alone starts at byte 1,
+-- one of two-byte numbers at byte 2, one with a pointer at byte 8.
+use Prim.Native.Nat.{ℕ, _+_, _*_, _^_}
+use mathlib.Core.Bool.{Bool}
+use mathlib.Core.List.{List}
 use Rattle.codes.specs.Types as types
-use Rattle.trb.specs.Transfers.{numberOf}
-use Rattle.trb.specs.declared.transfer.SetupStageTrb.{SetupStageTrb}
+use Rattle.trb.specs.Trb.{bit}
 use Rattle.trb.specs.declared.transfer.TransferTrbVariant.{TransferTrbVariant}
-use Rattle.trb.specs.declared.transfer.ParsedTransfer.{ParsedTransfer}
-use Rattle.trb_ffi.specs.declared.transfers.CTransfer.{CTransfer}
-use Rattle.trb_ffi.specs.declared.transfers.CParsedTransfer.{CParsedTransfer}
+use Rattle.words.specs.Lent.{one, two, three, four}
+use Rattle.trb_ffi.specs.Commands.{refused}
 
--- type, pointer, length, interrupt on short packet, chain, interrupt on completion, immediate data, direction
-abbrev pub row : ℕ → ℕ → ℕ → Bool → Bool → Bool → Bool → Bool → CTransfer
-row t p n short chain completion immediate direction =
-    record {
-      pointer = p;
-      length = n;
-      value = 0;
-      index = 0;
-      kind = t;
-      «request_type» = 0;
-      request = 0;
-      short = short;
-      chain = chain;
-      completion = completion;
-      immediate = immediate;
-      direction = direction;
-    }
+-- a length of four bytes, and four flags of one
+abbrev pub lengthAnd : ℕ → Bool → Bool → Bool → Bool → ℕ
+lengthAnd n chain completion immediate short =
+    n + bit chain * 2 ^ 32 + bit completion * 2 ^ 40 + bit immediate * 2 ^ 48 + bit short * 2 ^ 56
 
-abbrev pub plain : ℕ → Bool → Bool → Bool → CTransfer
-plain t chain completion direction = row t 0 0 false chain completion false direction
-
-abbrev pub flatSetup : SetupStageTrb → CTransfer
-flatSetup d =
-    record {
-      pointer = 0;
-      length = d .length;
-      value = d .value;
-      index = d .index;
-      kind = types.setupStage;
-      «request_type» = d .«request_type»;
-      request = d .request;
-      short = false;
-      chain = false;
-      completion = d .«interrupt_on_completion»;
-      immediate = false;
-      direction = false;
-    }
-
--- beside a refusal, the type that document 01 shows there
-abbrev pub flatTransfer : TransferTrbVariant → CTransfer
-flatTransfer (TransferTrbVariant.Normal d) =
-    row types.normal (d .«data_pointer») (d .«transfer_length») (d .«interrupt_on_short»)
-    (d .chain) (d .«interrupt_on_completion») (d .«immediate_data») false
-flatTransfer (TransferTrbVariant.SetupStage d) = flatSetup d
-flatTransfer (TransferTrbVariant.DataStage d) =
-    row types.dataStage (d .«data_pointer») (d .«transfer_length») (d .«interrupt_on_short»)
-    (d .chain) (d .«interrupt_on_completion») (d .«immediate_data») (d .direction)
-flatTransfer (TransferTrbVariant.StatusStage d) = plain types.statusStage (d .chain) (d .«interrupt_on_completion») (d .direction)
-flatTransfer TransferTrbVariant.Isoch = plain types.isoch false false false
-flatTransfer (TransferTrbVariant.EventData d) =
-    row types.eventData (d .«event_data») 0 false (d .chain) (d .«interrupt_on_completion») false false
-flatTransfer (TransferTrbVariant.NoOp d) = plain types.noOp (d .chain) (d .«interrupt_on_completion») false
-flatTransfer (TransferTrbVariant.Unrecognized e) = plain (e .«trb_type») false false false
-
-abbrev pub flatParsed : ParsedTransfer → CParsedTransfer
-flatParsed p = record { refusal = numberOf (p .variant); transfer = flatTransfer (p .variant); raw = p .raw }
+abbrev pub put : TransferTrbVariant → ℕ → ℕ → List ℕ → List ℕ
+put (TransferTrbVariant.Normal d) low high =
+    three types.normal (d .«data_pointer»)
+    (lengthAnd (d .«transfer_length») (d .chain) (d .«interrupt_on_completion») (d .«immediate_data») (d .«interrupt_on_short»))
+put (TransferTrbVariant.SetupStage d) low high =
+    two (types.setupStage + d .«request_type» * 2 ^ 16 + d .request * 2 ^ 24 + d .value * 2 ^ 32 + d .index * 2 ^ 48)
+    (d .length + bit (d .«interrupt_on_completion») * 2 ^ 16)
+put (TransferTrbVariant.DataStage d) low high =
+    four types.dataStage (d .«data_pointer»)
+    (lengthAnd (d .«transfer_length») (d .chain) (d .«interrupt_on_completion») (d .«immediate_data») (d .«interrupt_on_short»))
+    (bit (d .direction))
+put (TransferTrbVariant.StatusStage d) low high =
+    one (types.statusStage + bit (d .chain) * 2 ^ 8 + bit (d .«interrupt_on_completion») * 2 ^ 16 + bit (d .direction) * 2 ^ 24)
+put TransferTrbVariant.Isoch low high = one types.isoch
+put (TransferTrbVariant.EventData d) low high =
+    three types.eventData (d .«event_data») (bit (d .chain) + bit (d .«interrupt_on_completion») * 2 ^ 8)
+put (TransferTrbVariant.NoOp d) low high = one (types.noOp + bit (d .chain) * 2 ^ 8 + bit (d .«interrupt_on_completion») * 2 ^ 16)
+put (TransferTrbVariant.Unrecognized e) low high = refused low high (e .number) (e .«trb_type»)

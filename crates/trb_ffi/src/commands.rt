@@ -1,170 +1,113 @@
-// Commands, flat.
+// The commands of a driver, as Rust's enum and C's union hold them (specs/Commands.antt).
 use codes::trb_types;
-use trb::command::AddressDeviceCommandTrbData;
 use trb::command::CommandTrbVariant;
-use trb::command::ConfigureEndpointCommandTrbData;
-use trb::command::EvaluateContextCommandTrbData;
-use trb::command::ParsedCommand;
 use trb::command::SetTrDequeuePointerCommandTrbData;
 ghost use mathlib.Core.Path.{_≡_};
-ghost use Rattle.trb.specs.Commands.{commandOf, numberOf};
-ghost use Rattle.trb.specs.declared.command.CommandTrbVariant.{CommandTrbVariant};
-ghost use Rattle.trb_ffi.specs.Commands.{plain, flatCommand, flatParsed};
+ghost use Rattle.guest.specs.Fields.{wholeOf};
+ghost use Rattle.trb.specs.Commands.{commandOf};
+ghost use Rattle.trb.specs.Trb.{bit};
+ghost use Prim.Native.Nat.{_+_, _*_, _^_};
+ghost use Rattle.trb_ffi.specs.Commands.{put, refused};
 
-// `kind` is the TRB's type, or the type beside a refusal. A field that a command does not have is 0.
-#[repr(C)]
-pub struct CCommand {
-    // The input context or dequeue pointer.
-    pub pointer: u64,
-    pub stream: u16,
-    pub kind: u8,
-    // Block set address request, deconfigure, or dequeue cycle state.
-    pub flag: bool,
-    pub context_type: u8,
-    pub endpoint: u8,
-    pub slot: u8,
-}
-
-// The command; or the refusal's number, and the raw bytes.
-#[repr(C)]
-pub struct CParsedCommand {
-    pub refusal: u8,
-    pub command: CCommand,
-    pub raw: [u8; 16],
-}
-
-fn plain(kind: u8, endpoint: u8, slot: u8) -> CCommand
-    ensures { λ r. ⌜ r ≡ plain kind endpoint slot ⌝ }
+fn with_slot(kind: u8, slot: u8) -> u64
+    ensures { λ r. ⌜ r ≡ kind + slot * 2 ^ 8 ⌝ }
 {
-    CCommand {
-        pointer: 0,
-        stream: 0,
-        kind,
-        flag: false,
-        context_type: 0,
-        endpoint,
-        slot,
-    }
+    crate::packing::wide(kind) + crate::packing::wide(slot) * 0x100
 }
 
-fn address_device(d: AddressDeviceCommandTrbData) -> CCommand
-    ensures { λ r. ⌜ r ≡ flatCommand (CommandTrbVariant.AddressDevice d) ⌝ }
+fn with_endpoint(kind: u8, endpoint: u8, slot: u8) -> u64
+    ensures { λ r. ⌜ r ≡ kind + endpoint * 2 ^ 8 + slot * 2 ^ 16 ⌝ }
 {
-    CCommand {
-        pointer: d.input_context_pointer,
-        stream: 0,
-        kind: trb_types::ADDRESS_DEVICE_COMMAND,
-        flag: d.block_set_address_request,
-        context_type: 0,
-        endpoint: 0,
-        slot: d.slot_id,
-    }
+    crate::packing::wide(kind)
+        + crate::packing::wide(endpoint) * 0x100
+        + crate::packing::wide(slot) * 0x1_0000
 }
 
-fn configure_endpoint(d: ConfigureEndpointCommandTrbData) -> CCommand
-    ensures { λ r. ⌜ r ≡ flatCommand (CommandTrbVariant.ConfigureEndpoint d) ⌝ }
+fn with_flag(slot: u8, flag: bool) -> u64
+    ensures { λ r. ⌜ r ≡ slot + bit flag * 2 ^ 8 ⌝ }
 {
-    CCommand {
-        pointer: d.input_context_pointer,
-        stream: 0,
-        kind: trb_types::CONFIGURE_ENDPOINT_COMMAND,
-        flag: d.deconfigure,
-        context_type: 0,
-        endpoint: 0,
-        slot: d.slot_id,
-    }
+    crate::packing::wide(slot) + crate::packing::bit(flag) * 0x100
 }
 
-fn evaluate_context(d: EvaluateContextCommandTrbData) -> CCommand
-    ensures { λ r. ⌜ r ≡ flatCommand (CommandTrbVariant.EvaluateContext d) ⌝ }
+// The stream id, the endpoint, the slot, the cycle state and the stream context type.
+fn dequeue(d: SetTrDequeuePointerCommandTrbData) -> u64
+    ensures { λ r. ⌜ r ≡ d .«stream_id» + d .«endpoint_id» * 2 ^ 16 + d .«slot_id» * 2 ^ 24
+        + bit (d .«dequeue_cycle_state») * 2 ^ 32 + d .«stream_context_type» * 2 ^ 40 ⌝ }
 {
-    CCommand {
-        pointer: d.input_context_pointer,
-        stream: 0,
-        kind: trb_types::EVALUATE_CONTEXT_COMMAND,
-        flag: false,
-        context_type: 0,
-        endpoint: 0,
-        slot: d.slot_id,
-    }
+    (d.stream_id as u64)
+        + crate::packing::wide(d.endpoint_id) * 0x1_0000
+        + crate::packing::wide(d.slot_id) * 0x100_0000
+        + crate::packing::bit(d.dequeue_cycle_state) * 0x1_0000_0000
+        + crate::packing::wide(d.stream_context_type) * 0x100_0000_0000
 }
 
-fn set_tr_dequeue_pointer(d: SetTrDequeuePointerCommandTrbData) -> CCommand
-    ensures { λ r. ⌜ r ≡ flatCommand (CommandTrbVariant.SetTrDequeuePointer d) ⌝ }
+fn refuse(out: &mut [u64; 3], low: u64, high: u64, number: u8, trb_type: u8)
+    ensures { λ _. ⌜ now (out .exit) ≡ refused low high number «trb_type» (now (out .entry)) ⌝ }
 {
-    CCommand {
-        pointer: d.dequeue_pointer,
-        stream: d.stream_id,
-        kind: trb_types::SET_TR_DEQUEUE_POINTER_COMMAND,
-        flag: d.dequeue_cycle_state,
-        context_type: d.stream_context_type,
-        endpoint: d.endpoint_id,
-        slot: d.slot_id,
-    }
+    words::three(
+        out,
+        crate::packing::up(low),
+        crate::packing::across(low, high),
+        crate::packing::beside(high, number, trb_type),
+    )
 }
 
-fn flat_command(variant: CommandTrbVariant) -> CCommand
-    ensures { λ r. ⌜ r ≡ flatCommand variant ⌝ }
+fn put(out: &mut [u64; 3], variant: CommandTrbVariant, low: u64, high: u64)
+    ensures { λ _. ⌜ now (out .exit) ≡ put variant low high (now (out .entry)) ⌝ }
 {
     match variant {
-        CommandTrbVariant::NoOp => plain(trb_types::NO_OP_COMMAND, 0, 0),
-        CommandTrbVariant::EnableSlot => plain(trb_types::ENABLE_SLOT_COMMAND, 0, 0),
-        CommandTrbVariant::DisableSlot(d) => plain(trb_types::DISABLE_SLOT_COMMAND, 0, d.slot_id),
-        CommandTrbVariant::AddressDevice(d) => address_device(d),
-        CommandTrbVariant::ConfigureEndpoint(d) => configure_endpoint(d),
-        CommandTrbVariant::EvaluateContext(d) => evaluate_context(d),
-        CommandTrbVariant::ResetEndpoint(d) => plain(
-            trb_types::RESET_ENDPOINT_COMMAND,
-            d.endpoint_id,
-            d.slot_id,
+        CommandTrbVariant::NoOp => words::one(out, trb_types::NO_OP_COMMAND as u64),
+        CommandTrbVariant::EnableSlot => words::one(out, trb_types::ENABLE_SLOT_COMMAND as u64),
+        CommandTrbVariant::DisableSlot(d) => words::one(
+            out,
+            with_slot(trb_types::DISABLE_SLOT_COMMAND, d.slot_id),
         ),
-        CommandTrbVariant::StopEndpoint(d) => plain(
-            trb_types::STOP_ENDPOINT_COMMAND,
-            d.endpoint_id,
-            d.slot_id,
+        CommandTrbVariant::AddressDevice(d) => words::three(
+            out,
+            trb_types::ADDRESS_DEVICE_COMMAND as u64,
+            d.input_context_pointer,
+            with_flag(d.slot_id, d.block_set_address_request),
         ),
-        CommandTrbVariant::SetTrDequeuePointer(d) => set_tr_dequeue_pointer(d),
-        CommandTrbVariant::ResetDevice(d) => plain(trb_types::RESET_DEVICE_COMMAND, 0, d.slot_id),
-        CommandTrbVariant::ForceHeader => plain(trb_types::FORCE_HEADER_COMMAND, 0, 0),
-        CommandTrbVariant::Unrecognized(e) => plain(e.trb_type, 0, 0),
-    }
-}
-
-fn number(variant: CommandTrbVariant) -> u8
-    ensures { λ r. ⌜ r ≡ numberOf variant ⌝ }
-{
-    match variant {
-        CommandTrbVariant::NoOp => 0,
-        CommandTrbVariant::EnableSlot => 0,
-        CommandTrbVariant::DisableSlot(_) => 0,
-        CommandTrbVariant::AddressDevice(_) => 0,
-        CommandTrbVariant::ConfigureEndpoint(_) => 0,
-        CommandTrbVariant::EvaluateContext(_) => 0,
-        CommandTrbVariant::ResetEndpoint(_) => 0,
-        CommandTrbVariant::StopEndpoint(_) => 0,
-        CommandTrbVariant::SetTrDequeuePointer(_) => 0,
-        CommandTrbVariant::ResetDevice(_) => 0,
-        CommandTrbVariant::ForceHeader => 0,
-        CommandTrbVariant::Unrecognized(e) => e.number,
-    }
-}
-
-fn flat_parsed(p: ParsedCommand) -> CParsedCommand
-    ensures { λ r. ⌜ r ≡ flatParsed p ⌝ }
-{
-    let variant = p.variant;
-    let raw = p.raw;
-    CParsedCommand {
-        refusal: number(variant),
-        command: flat_command(variant),
-        raw,
+        CommandTrbVariant::ConfigureEndpoint(d) => words::three(
+            out,
+            trb_types::CONFIGURE_ENDPOINT_COMMAND as u64,
+            d.input_context_pointer,
+            with_flag(d.slot_id, d.deconfigure),
+        ),
+        CommandTrbVariant::EvaluateContext(d) => words::three(
+            out,
+            trb_types::EVALUATE_CONTEXT_COMMAND as u64,
+            d.input_context_pointer,
+            crate::packing::wide(d.slot_id),
+        ),
+        CommandTrbVariant::ResetEndpoint(d) => words::one(
+            out,
+            with_endpoint(trb_types::RESET_ENDPOINT_COMMAND, d.endpoint_id, d.slot_id),
+        ),
+        CommandTrbVariant::StopEndpoint(d) => words::one(
+            out,
+            with_endpoint(trb_types::STOP_ENDPOINT_COMMAND, d.endpoint_id, d.slot_id),
+        ),
+        CommandTrbVariant::SetTrDequeuePointer(d) => words::three(
+            out,
+            trb_types::SET_TR_DEQUEUE_POINTER_COMMAND as u64,
+            d.dequeue_pointer,
+            dequeue(d),
+        ),
+        CommandTrbVariant::ResetDevice(d) => words::one(
+            out,
+            with_slot(trb_types::RESET_DEVICE_COMMAND, d.slot_id),
+        ),
+        CommandTrbVariant::ForceHeader => words::one(out, trb_types::FORCE_HEADER_COMMAND as u64),
+        CommandTrbVariant::Unrecognized(e) => refuse(out, low, high, e.number, e.trb_type),
     }
 }
 
 #[no_mangle]
-pub extern "C" fn lomvigast_parse_command(trb: &[u8; 16]) -> CParsedCommand
-    ensures { λ r. ⌜ r ≡ flatParsed (commandOf (now (trb .entry))) ⌝ }
+pub extern "C" fn lomvigast_parse_command(out: &mut [u64; 3], low: u64, high: u64)
+    ensures { λ _. ⌜ now (out .exit) ≡ put (commandOf (wholeOf low high) .variant) low high (now (out .entry)) ⌝ }
 {
-    let raw = *trb;
-    flat_parsed(CommandTrbVariant::parse(raw))
+    let parsed = CommandTrbVariant::parse(guest::whole(low, high));
+    let variant = parsed.variant;
+    put(out, variant, low, high)
 }

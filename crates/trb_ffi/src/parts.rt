@@ -3,6 +3,7 @@ use trb::data::TrbDmaInfo;
 use trb::link::LinkOrOther;
 use trb::link::LinkTrb;
 ghost use mathlib.Core.Path.{_≡_};
+ghost use Rattle.guest.specs.Fields.{wholeOf};
 ghost use Rattle.trb.specs.Trb.{typeOf, cycleOf};
 ghost use Rattle.trb.specs.Links.{linkOf};
 ghost use Rattle.trb.specs.Data.{dataRefusal};
@@ -48,27 +49,24 @@ fn flat_link(answer: LinkOrOther) -> CLink
 }
 
 #[no_mangle]
-pub extern "C" fn lomvigast_trb_type(trb: &[u8; 16]) -> u8
-    ensures { λ r. ⌜ r ≡ typeOf (now (trb .entry)) ⌝ }
+pub extern "C" fn lomvigast_trb_type(low: u64, high: u64) -> u8
+    ensures { λ r. ⌜ r ≡ typeOf (wholeOf low high) ⌝ }
 {
-    let raw = *trb;
-    trb::trb_type(raw)
+    trb::trb_type(guest::whole(low, high))
 }
 
 #[no_mangle]
-pub extern "C" fn lomvigast_cycle_bit(trb: &[u8; 16]) -> bool
-    ensures { λ r. ⌜ r ≡ cycleOf (now (trb .entry)) ⌝ }
+pub extern "C" fn lomvigast_cycle_bit(low: u64, high: u64) -> bool
+    ensures { λ r. ⌜ r ≡ cycleOf (wholeOf low high) ⌝ }
 {
-    let raw = *trb;
-    trb::cycle_bit(raw)
+    trb::cycle_bit(guest::whole(low, high))
 }
 
 #[no_mangle]
-pub extern "C" fn lomvigast_parse_link(trb: &[u8; 16]) -> CLink
-    ensures { λ r. ⌜ r ≡ flatLink (linkOf (now (trb .entry))) ⌝ }
+pub extern "C" fn lomvigast_parse_link(low: u64, high: u64) -> CLink
+    ensures { λ r. ⌜ r ≡ flatLink (linkOf (wholeOf low high)) ⌝ }
 {
-    let raw = *trb;
-    flat_link(LinkTrb::parse(raw))
+    flat_link(LinkTrb::parse(guest::whole(low, high)))
 }
 
 #[no_mangle]

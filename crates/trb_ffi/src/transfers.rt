@@ -1,193 +1,174 @@
-// The TRBs of a transfer ring, flat.
+// The TRBs of a transfer ring, as Rust's enum and C's union hold them (specs/Transfers.antt).
 use codes::trb_types;
 use trb::transfer::DataStageTrb;
-use trb::transfer::EventDataTrb;
 use trb::transfer::NormalTrb;
-use trb::transfer::ParsedTransfer;
 use trb::transfer::SetupStageTrb;
 use trb::transfer::TransferTrbVariant;
 ghost use mathlib.Core.Path.{_≡_};
-ghost use Rattle.trb.specs.Transfers.{transferOf, numberOf};
-ghost use Rattle.trb.specs.declared.transfer.TransferTrbVariant.{TransferTrbVariant};
-ghost use Rattle.trb_ffi.specs.Transfers.{plain, flatTransfer, flatParsed};
+ghost use Prim.Native.Nat.{_+_, _*_, _^_};
+ghost use Rattle.guest.specs.Fields.{wholeOf};
+ghost use Rattle.trb.specs.Transfers.{transferOf};
+ghost use Rattle.trb.specs.Trb.{bit};
+ghost use Rattle.words.specs.Lent.{one, two, three, four};
+ghost use Rattle.trb_ffi.specs.Commands.{refused};
+ghost use Rattle.trb_ffi.specs.Transfers.{lengthAnd, put};
 
-// `kind` is the TRB's type, or the type beside a refusal. A field that a TRB does not have is 0.
-#[repr(C)]
-pub struct CTransfer {
-    // The data pointer or the event data.
-    pub pointer: u64,
-    pub length: u32,
-    pub value: u16,
-    pub index: u16,
-    pub kind: u8,
-    pub request_type: u8,
-    pub request: u8,
-    pub short: bool,
-    pub chain: bool,
-    pub completion: bool,
-    pub immediate: bool,
-    pub direction: bool,
-}
-
-// The TRB; or the refusal's number, and the raw bytes.
-#[repr(C)]
-pub struct CParsedTransfer {
-    pub refusal: u8,
-    pub transfer: CTransfer,
-    pub raw: [u8; 16],
-}
-
-fn plain(kind: u8, chain: bool, completion: bool, direction: bool) -> CTransfer
-    ensures { λ r. ⌜ r ≡ plain kind chain completion direction ⌝ }
+fn one(out: &mut [u64; 4], a: u64)
+    ensures { λ _. ⌜ now (out .exit) ≡ one a (now (out .entry)) ⌝ }
 {
-    CTransfer {
-        pointer: 0,
-        length: 0,
-        value: 0,
-        index: 0,
-        kind,
-        request_type: 0,
-        request: 0,
-        short: false,
-        chain,
-        completion,
-        immediate: false,
-        direction,
-    }
+    out[0] = a;
 }
 
-fn normal(d: NormalTrb) -> CTransfer
-    ensures { λ r. ⌜ r ≡ flatTransfer (TransferTrbVariant.Normal d) ⌝ }
+fn two(out: &mut [u64; 4], a: u64, b: u64)
+    ensures { λ _. ⌜ now (out .exit) ≡ two a b (now (out .entry)) ⌝ }
 {
-    CTransfer {
-        pointer: d.data_pointer,
-        length: d.transfer_length,
-        value: 0,
-        index: 0,
-        kind: trb_types::NORMAL,
-        request_type: 0,
-        request: 0,
-        short: d.interrupt_on_short,
-        chain: d.chain,
-        completion: d.interrupt_on_completion,
-        immediate: d.immediate_data,
-        direction: false,
-    }
+    out[0] = a;
+    out[1] = b;
 }
 
-fn setup_stage(d: SetupStageTrb) -> CTransfer
-    ensures { λ r. ⌜ r ≡ flatTransfer (TransferTrbVariant.SetupStage d) ⌝ }
+fn three(out: &mut [u64; 4], a: u64, b: u64, c: u64)
+    ensures { λ _. ⌜ now (out .exit) ≡ three a b c (now (out .entry)) ⌝ }
 {
-    CTransfer {
-        pointer: 0,
-        length: d.length as u32,
-        value: d.value,
-        index: d.index,
-        kind: trb_types::SETUP_STAGE,
-        request_type: d.request_type,
-        request: d.request,
-        short: false,
-        chain: false,
-        completion: d.interrupt_on_completion,
-        immediate: false,
-        direction: false,
-    }
+    out[0] = a;
+    out[1] = b;
+    out[2] = c;
 }
 
-fn data_stage(d: DataStageTrb) -> CTransfer
-    ensures { λ r. ⌜ r ≡ flatTransfer (TransferTrbVariant.DataStage d) ⌝ }
+fn four(out: &mut [u64; 4], a: u64, b: u64, c: u64, d: u64)
+    ensures { λ _. ⌜ now (out .exit) ≡ four a b c d (now (out .entry)) ⌝ }
 {
-    CTransfer {
-        pointer: d.data_pointer,
-        length: d.transfer_length,
-        value: 0,
-        index: 0,
-        kind: trb_types::DATA_STAGE,
-        request_type: 0,
-        request: 0,
-        short: d.interrupt_on_short,
-        chain: d.chain,
-        completion: d.interrupt_on_completion,
-        immediate: d.immediate_data,
-        direction: d.direction,
-    }
+    out[0] = a;
+    out[1] = b;
+    out[2] = c;
+    out[3] = d;
 }
 
-fn event_data(d: EventDataTrb) -> CTransfer
-    ensures { λ r. ⌜ r ≡ flatTransfer (TransferTrbVariant.EventData d) ⌝ }
+fn length_and(length: u32, chain: bool, completion: bool, immediate: bool, short: bool) -> u64
+    ensures { λ r. ⌜ r ≡ lengthAnd length chain completion immediate short ⌝ }
 {
-    CTransfer {
-        pointer: d.event_data,
-        length: 0,
-        value: 0,
-        index: 0,
-        kind: trb_types::EVENT_DATA,
-        request_type: 0,
-        request: 0,
-        short: false,
-        chain: d.chain,
-        completion: d.interrupt_on_completion,
-        immediate: false,
-        direction: false,
-    }
+    (length as u64)
+        + crate::packing::bit(chain) * 0x1_0000_0000
+        + crate::packing::bit(completion) * 0x100_0000_0000
+        + crate::packing::bit(immediate) * 0x1_0000_0000_0000
+        + crate::packing::bit(short) * 0x100_0000_0000_0000
 }
 
-fn flat_transfer(variant: TransferTrbVariant) -> CTransfer
-    ensures { λ r. ⌜ r ≡ flatTransfer variant ⌝ }
+fn flags(kind: u8, chain: bool, completion: bool) -> u64
+    ensures { λ r. ⌜ r ≡ kind + bit chain * 2 ^ 8 + bit completion * 2 ^ 16 ⌝ }
+{
+    crate::packing::wide(kind)
+        + crate::packing::bit(chain) * 0x100
+        + crate::packing::bit(completion) * 0x1_0000
+}
+
+fn status(chain: bool, completion: bool, direction: bool) -> u64
+    ensures { λ r. ⌜ r ≡ 4 + bit chain * 2 ^ 8 + bit completion * 2 ^ 16 + bit direction * 2 ^ 24 ⌝ }
+{
+    4
+        + crate::packing::bit(chain) * 0x100
+        + crate::packing::bit(completion) * 0x1_0000
+        + crate::packing::bit(direction) * 0x100_0000
+}
+
+fn event_data(chain: bool, completion: bool) -> u64
+    ensures { λ r. ⌜ r ≡ bit chain + bit completion * 2 ^ 8 ⌝ }
+{
+    crate::packing::bit(chain) + crate::packing::bit(completion) * 0x100
+}
+
+fn setup(d: SetupStageTrb) -> u64
+    ensures { λ r. ⌜ r ≡ 2 + d .«request_type» * 2 ^ 16 + d .request * 2 ^ 24 + d .value * 2 ^ 32 + d .index * 2 ^ 48 ⌝ }
+{
+    2
+        + crate::packing::wide(d.request_type) * 0x1_0000
+        + crate::packing::wide(d.request) * 0x100_0000
+        + (d.value as u64) * 0x1_0000_0000
+        + (d.index as u64) * 0x1_0000_0000_0000
+}
+
+fn setup_length(d: SetupStageTrb) -> u64
+    ensures { λ r. ⌜ r ≡ d .length + bit (d .«interrupt_on_completion») * 2 ^ 16 ⌝ }
+{
+    (d.length as u64) + crate::packing::bit(d.interrupt_on_completion) * 0x1_0000
+}
+
+fn normal(d: NormalTrb) -> u64
+    ensures { λ r. ⌜ r ≡ lengthAnd (d .«transfer_length») (d .chain) (d .«interrupt_on_completion») (d .«immediate_data») (d .«interrupt_on_short») ⌝ }
+{
+    length_and(
+        d.transfer_length,
+        d.chain,
+        d.interrupt_on_completion,
+        d.immediate_data,
+        d.interrupt_on_short,
+    )
+}
+
+fn data(d: DataStageTrb) -> u64
+    ensures { λ r. ⌜ r ≡ lengthAnd (d .«transfer_length») (d .chain) (d .«interrupt_on_completion») (d .«immediate_data») (d .«interrupt_on_short») ⌝ }
+{
+    length_and(
+        d.transfer_length,
+        d.chain,
+        d.interrupt_on_completion,
+        d.immediate_data,
+        d.interrupt_on_short,
+    )
+}
+
+fn refuse(out: &mut [u64; 4], low: u64, high: u64, number: u8, trb_type: u8)
+    ensures { λ _. ⌜ now (out .exit) ≡ refused low high number «trb_type» (now (out .entry)) ⌝ }
+{
+    three(
+        out,
+        crate::packing::up(low),
+        crate::packing::across(low, high),
+        crate::packing::beside(high, number, trb_type),
+    )
+}
+
+fn put(out: &mut [u64; 4], variant: TransferTrbVariant, low: u64, high: u64)
+    ensures { λ _. ⌜ now (out .exit) ≡ put variant low high (now (out .entry)) ⌝ }
 {
     match variant {
-        TransferTrbVariant::Normal(d) => normal(d),
-        TransferTrbVariant::SetupStage(d) => setup_stage(d),
-        TransferTrbVariant::DataStage(d) => data_stage(d),
-        TransferTrbVariant::StatusStage(d) => plain(
-            trb_types::STATUS_STAGE,
-            d.chain,
-            d.interrupt_on_completion,
-            d.direction,
+        TransferTrbVariant::Normal(d) => three(
+            out,
+            trb_types::NORMAL as u64,
+            d.data_pointer,
+            normal(d),
         ),
-        TransferTrbVariant::Isoch => plain(trb_types::ISOCH, false, false, false),
-        TransferTrbVariant::EventData(d) => event_data(d),
-        TransferTrbVariant::NoOp(d) => plain(
-            trb_types::NO_OP,
-            d.chain,
-            d.interrupt_on_completion,
-            false,
+        TransferTrbVariant::SetupStage(d) => two(out, setup(d), setup_length(d)),
+        TransferTrbVariant::DataStage(d) => four(
+            out,
+            trb_types::DATA_STAGE as u64,
+            d.data_pointer,
+            data(d),
+            crate::packing::bit(d.direction),
         ),
-        TransferTrbVariant::Unrecognized(e) => plain(e.trb_type, false, false, false),
-    }
-}
-
-fn number(variant: TransferTrbVariant) -> u8
-    ensures { λ r. ⌜ r ≡ numberOf variant ⌝ }
-{
-    match variant {
-        TransferTrbVariant::Normal(_) => 0,
-        TransferTrbVariant::SetupStage(_) => 0,
-        TransferTrbVariant::DataStage(_) => 0,
-        TransferTrbVariant::StatusStage(_) => 0,
-        TransferTrbVariant::Isoch => 0,
-        TransferTrbVariant::EventData(_) => 0,
-        TransferTrbVariant::NoOp(_) => 0,
-        TransferTrbVariant::Unrecognized(e) => e.number,
-    }
-}
-
-fn flat_parsed(p: ParsedTransfer) -> CParsedTransfer
-    ensures { λ r. ⌜ r ≡ flatParsed p ⌝ }
-{
-    let variant = p.variant;
-    let raw = p.raw;
-    CParsedTransfer {
-        refusal: number(variant),
-        transfer: flat_transfer(variant),
-        raw,
+        TransferTrbVariant::StatusStage(d) => one(
+            out,
+            status(d.chain, d.interrupt_on_completion, d.direction),
+        ),
+        TransferTrbVariant::Isoch => one(out, trb_types::ISOCH as u64),
+        TransferTrbVariant::EventData(d) => three(
+            out,
+            trb_types::EVENT_DATA as u64,
+            d.event_data,
+            event_data(d.chain, d.interrupt_on_completion),
+        ),
+        TransferTrbVariant::NoOp(d) => one(
+            out,
+            flags(trb_types::NO_OP, d.chain, d.interrupt_on_completion),
+        ),
+        TransferTrbVariant::Unrecognized(e) => refuse(out, low, high, e.number, e.trb_type),
     }
 }
 
 #[no_mangle]
-pub extern "C" fn lomvigast_parse_transfer(trb: &[u8; 16]) -> CParsedTransfer
-    ensures { λ r. ⌜ r ≡ flatParsed (transferOf (now (trb .entry))) ⌝ }
+pub extern "C" fn lomvigast_parse_transfer(out: &mut [u64; 4], low: u64, high: u64)
+    ensures { λ _. ⌜ now (out .exit) ≡ put (transferOf (wholeOf low high) .variant) low high (now (out .entry)) ⌝ }
 {
-    let raw = *trb;
-    flat_parsed(TransferTrbVariant::parse(raw))
+    let parsed = TransferTrbVariant::parse(guest::whole(low, high));
+    let variant = parsed.variant;
+    put(out, variant, low, high)
 }

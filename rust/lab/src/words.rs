@@ -31,6 +31,7 @@ impl Answer {
                 linked_ring::Answer::Trb(_) => Tone::Found,
                 linked_ring::Answer::NothingNew => Tone::Nothing,
                 linked_ring::Answer::TooManyLinks => Tone::GaveUp,
+                linked_ring::Answer::Refused(_) => Tone::Refused,
             },
             Self::Accepted(_) | Self::Taken(..) => Tone::Found,
             Self::None(_) => Tone::Nothing,
@@ -73,6 +74,7 @@ fn chase_word(chase: &Chase) -> &'static str {
         linked_ring::Answer::Trb(_) => "TRB",
         linked_ring::Answer::NothingNew => "nothing new",
         linked_ring::Answer::TooManyLinks => "GAVE UP",
+        linked_ring::Answer::Refused(_) => "refused",
     }
 }
 
@@ -138,6 +140,7 @@ pub fn chase_words(chase: &Chase) -> String {
         linked_ring::Answer::TooManyLinks => format!(
             "GAVE UP: {notes} and one more stands at {place:#x}, cycle state {cycle} (this is not \"nothing new\")"
         ),
+        linked_ring::Answer::Refused(refusal) => refused(refusal),
     }
 }
 

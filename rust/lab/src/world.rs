@@ -322,7 +322,10 @@ fn on_values(call: ValueCall) -> Result<Answer, Stop> {
 
 /// Looks for the next TRB of a linked ring.
 pub fn chase(ring: &mut LinkedRing, memory: GuestMemory<'_>) -> Result<Chase, Refusal> {
-    let linked_ring::Chase { answer, notes } = ring.next_trb(memory)?;
+    let linked_ring::Chase { answer, notes } = ring.next_trb(memory);
+    if let linked_ring::Answer::Refused(refusal) = answer {
+        return Err(refusal);
+    }
     let (place, cycle) = ring.get_dequeue_pointer();
     Ok(Chase {
         answer,

@@ -1,70 +1,9 @@
 //! The event ring, which the controller fills, and its reader, which stands on the driver's side.
 
-use crate::ffi::CEventRing;
-use crate::trb::{EventTrb, RawTrbBuffer};
+pub use crate::types::RingState;
+
+use crate::types::{EventTrb, RawTrbBuffer, State};
 use crate::{ffi, GuestMemory, GuestMemoryMut, Refusal};
-
-/// All that an event ring or its reader holds, as one saves it or looks at it. Any values are allowed; those that break a
-/// ring's limits are refused with 4 when it is used.
-#[derive(Debug, Clone, Copy, PartialEq, Eq)]
-pub struct RingState {
-    /// Whether it was configured, and not reset since.
-    pub ready: bool,
-    /// The segment table's base.
-    pub table: u64,
-    /// How many entries the table has.
-    pub entries: u16,
-    /// The entry of the present segment (usbvfiod's `erst_count`).
-    pub index: u16,
-    /// The present slot (usbvfiod's `enqueue_pointer`).
-    pub place: u64,
-    /// How many slots the present segment still has, the present one among them (usbvfiod's `trb_count`).
-    pub remaining: u32,
-    /// The cycle bit of this pass (usbvfiod's `cycle_state`).
-    pub cycle: bool,
-}
-
-impl From<CEventRing> for RingState {
-    #[inline]
-    fn from(s: CEventRing) -> Self {
-        Self {
-            ready: s.ready,
-            table: s.table,
-            entries: s.entries,
-            index: s.index,
-            place: s.place,
-            remaining: s.remaining,
-            cycle: s.cycle,
-        }
-    }
-}
-
-impl From<RingState> for CEventRing {
-    #[inline]
-    fn from(s: RingState) -> Self {
-        Self {
-            ready: s.ready,
-            table: s.table,
-            entries: s.entries,
-            index: s.index,
-            place: s.place,
-            remaining: s.remaining,
-            cycle: s.cycle,
-        }
-    }
-}
-
-impl CEventRing {
-    /// Takes over what a step along the ring can change. A copy of the whole is slower: the core has just written the fields
-    /// one by one, and a processor waits for these before it reads them together.
-    #[inline]
-    fn step_to(&mut self, next: &Self) {
-        self.place = next.place;
-        self.remaining = next.remaining;
-        self.index = next.index;
-        self.cycle = next.cycle;
-    }
-}
 
 /// The producer's end of an event ring (xHCI 4.9.4).
 ///
@@ -96,21 +35,23 @@ impl CEventRing {
 // Not `Copy`: a copy that moves on in its place would leave it behind.
 #[derive(Debug, Clone, PartialEq, Eq)]
 pub struct EventRing {
-    state: CEventRing,
+    state: State,
 }
 
 impl EventRing {
     /// A ring that is not configured.
     #[inline]
     pub fn new() -> Self {
-        let state = ffi::new_ring();
-        Self { state }
+        let state = State::default();
+        let mut new = Self { state };
+        new.reset();
+        new
     }
 
     /// Returns the ring to what [`EventRing::new`] makes.
     #[inline]
     pub fn reset(&mut self) {
-        *self = Self::new();
+        ffi::reset(&mut self.state);
     }
 
     /// Puts the ring at the first slot of the first segment.
@@ -124,9 +65,8 @@ impl EventRing {
         base_address: u64,
         erst_size: u16,
     ) -> Result<(), Refusal> {
-        let moved = ffi::configure(memory.bytes, &self.state, base_address, erst_size);
-        self.state = moved.ring;
-        Refusal::check(moved.refusal, 0)
+        let number = ffi::configure(memory.bytes, &mut self.state, base_address, erst_size);
+        Refusal::check(number, 0)
     }
 
     /// Writes an event to the present slot and moves on, unless that would fill the last free slot.
@@ -135,21 +75,21 @@ impl EventRing {
     /// cleared. Where the ring is full the event is the caller's to keep. Refused with 8 (the event), 4
     /// (this ring), 6 (`dequeue_pointer`), 1 (the slot, or the next table entry where one slot remains), 5 (that entry) or 7
     /// (full), in this order; no byte of memory has then changed, and the ring is as it was.
+    #[inline]
     pub fn enqueue(
         &mut self,
         memory: &mut GuestMemoryMut<'_>,
         trb: &EventTrb,
         dequeue_pointer: u64,
     ) -> Result<(), Refusal> {
-        let moved = ffi::add(memory.bytes, &self.state, trb.flat(), dequeue_pointer);
-        self.state.step_to(&moved.ring);
-        Refusal::check(moved.refusal, 0)
+        let number = ffi::add(memory.bytes, &mut self.state, trb, dequeue_pointer);
+        Refusal::check(number, 0)
     }
 
     /// What the ring holds.
     #[inline]
     pub fn state(&self) -> RingState {
-        self.state.into()
+        (&self.state).into()
     }
 }
 
@@ -171,21 +111,23 @@ impl From<RingState> for EventRing {
 // Not `Copy`: a copy that moves on in its place would leave it behind.
 #[derive(Debug, Clone, PartialEq, Eq)]
 pub struct EventReader {
-    state: CEventRing,
+    state: State,
 }
 
 impl EventReader {
     /// A reader that is not configured.
     #[inline]
     pub fn new() -> Self {
-        let state = ffi::new_ring();
-        Self { state }
+        let state = State::default();
+        let mut new = Self { state };
+        new.reset();
+        new
     }
 
     /// Returns the reader to what [`EventReader::new`] makes.
     #[inline]
     pub fn reset(&mut self) {
-        *self = Self::new();
+        ffi::reset(&mut self.state);
     }
 
     /// As [`EventRing::configure`].
@@ -196,9 +138,8 @@ impl EventReader {
         base_address: u64,
         erst_size: u16,
     ) -> Result<(), Refusal> {
-        let moved = ffi::configure_reader(memory.bytes, &self.state, base_address, erst_size);
-        self.state = moved.ring;
-        Refusal::check(moved.refusal, 0)
+        let number = ffi::configure_reader(memory.bytes, &mut self.state, base_address, erst_size);
+        Refusal::check(number, 0)
     }
 
     /// The next event's bytes, or `None` if the slot is stale: on a ring that began with zeroed segments and that nobody else
@@ -206,20 +147,19 @@ impl EventReader {
     ///
     /// Refused with 4 (this reader), 1 (the slot, or the next table entry after a segment's last event) or 5 (that entry), in
     /// this order; the reader is then as it was.
+    #[inline]
     pub fn take(&mut self, memory: GuestMemory<'_>) -> Result<Option<RawTrbBuffer>, Refusal> {
-        let taken = ffi::take(memory.bytes, &self.state);
-        self.state.step_to(&taken.reader);
-        match taken.kind {
-            0 => Ok(None),
-            1 => Ok(Some(taken.trb)),
-            _ => Err(Refusal::of(taken.refusal, 0)),
+        match ffi::take(memory.bytes, &mut self.state) {
+            Ok(event) => Ok(Some(event)),
+            Err(ffi::NOTHING) => Ok(None),
+            Err(number) => Err(Refusal::of(number, 0)),
         }
     }
 
     /// What the reader holds. Its `place` is what a driver reports.
     #[inline]
     pub fn state(&self) -> RingState {
-        self.state.into()
+        (&self.state).into()
     }
 }
 

@@ -9,7 +9,7 @@
 //!
 //! ```
 //! use lomvigast::linked_ring::{Answer, LinkedRing};
-//! use lomvigast::GuestMemory;
+//! use lomvigast::{GuestMemory, Refusal};
 //!
 //! // A Link TRB (type 6) with cycle bit 1 that leads to itself.
 //! let mut bytes = [0; 16];
@@ -17,14 +17,13 @@
 //! bytes[13] = 6 << 2;
 //!
 //! let mut ring = LinkedRing::new(0, true);
-//! let chase = ring.next_trb(GuestMemory::new(&bytes))?;
+//! let chase = ring.next_trb(GuestMemory::new(&bytes));
 //! assert_eq!(chase.answer, Answer::TooManyLinks); // and never "nothing new"
 //! assert_eq!(chase.notes.links, 256);
 //!
 //! // The same ring in a guest that lends fifteen bytes: refused, and the ring is where it was.
-//! let refusal = ring.next_trb(GuestMemory::new(&bytes[..15])).unwrap_err();
-//! assert_eq!(refusal.number(), 1);
-//! # Ok::<(), lomvigast::Refusal>(())
+//! let chase = ring.next_trb(GuestMemory::new(&bytes[..15]));
+//! assert_eq!(chase.answer, Answer::Refused(Refusal::Outside));
 //! ```
 
 #![deny(missing_docs)]
@@ -39,6 +38,7 @@ pub mod linked_ring;
 mod memory;
 mod refusal;
 pub mod trb;
+mod types;
 
 pub use memory::{GuestMemory, GuestMemoryMut};
 pub use refusal::Refusal;

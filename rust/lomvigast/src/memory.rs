@@ -51,9 +51,7 @@ impl<'a> GuestMemory<'a> {
     /// The sixteen bytes of a TRB at `address`.
     #[inline]
     pub fn read_trb(self, address: u64) -> Result<RawTrbBuffer, Refusal> {
-        let answer = ffi::read_trb(self.bytes, address);
-        Refusal::check(answer.refusal, 0)?;
-        Ok(answer.trb)
+        ffi::read_trb(self.bytes, address).map_err(|number| Refusal::of(number, 0))
     }
 }
 

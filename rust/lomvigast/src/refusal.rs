@@ -13,34 +13,36 @@ use std::fmt;
 ///     "the ring is full: the slot after the present one is the reported place (refusal 7)"
 /// );
 /// ```
+// The tags are the numbers: the archives write a refusal where it stands in an answer.
+#[repr(u8)]
 #[derive(Debug, Clone, Copy, PartialEq, Eq, Hash)]
 pub enum Refusal {
     /// 1: a byte to be touched is not inside the lent memory.
-    Outside,
+    Outside = 1,
     /// 2: the segment table's base is not a multiple of 64.
-    TableBase,
+    TableBase = 2,
     /// 3: the segment table has 0 or more than 16 entries.
-    TableEntries,
+    TableEntries = 3,
     /// 4: the ring was never configured, or was reset, or its state breaks its own limits.
-    State,
+    State = 4,
     /// 5: a segment entry has a base that is no multiple of 64, a size of 0 or above 4096, or an end beyond memory.
-    Segment,
+    Segment = 5,
     /// 6: the reported place is not a multiple of 16.
-    Report,
+    Report = 6,
     /// 7: the ring is full: the slot after the present one is the reported place. The event is the caller's to keep.
-    Full,
+    Full = 7,
     /// 8: an event that cannot be written: a command pointer with low bits set, a parameter or length of 2^24 or more.
-    Event,
+    Event = 8,
     /// 9: an optional command, of the type that stands here (18 to 21).
-    Optional(u8),
+    Optional(u8) = 9,
     /// 10: a type, which stands here, that this parser has no row for.
-    Type(u8),
+    Type(u8) = 10,
     /// 11: a bit is set that must be 0.
-    Reserved,
+    Reserved = 11,
     /// 12: a completion code that this event cannot hold.
-    Code,
+    Code = 12,
     /// 13: the data part was asked of a TRB that holds its data itself.
-    Immediate,
+    Immediate = 13,
 }
 
 impl Refusal {

@@ -2,7 +2,7 @@
 
 use lomvigast::linked_ring::{Answer, LinkedRing, Notes};
 use lomvigast::trb::*;
-use lomvigast::{GuestMemory, Refusal};
+use lomvigast::GuestMemory;
 
 /// A TRB of a type whose other bytes are these.
 fn trb(trb_type: u8, mut bytes: RawTrbBuffer) -> RawTrbBuffer {
@@ -195,26 +195,25 @@ fn links() {
 }
 
 #[test]
-fn notes() -> Result<(), Refusal> {
-    let notes = |low, flags| -> Result<Notes, Refusal> {
+fn notes() {
+    let notes = |low, flags| {
         let mut bytes = [0; 32];
         bytes[..16].copy_from_slice(&trb(
             6,
             [low, 0, 0, 0, 0, 0, 0, 0, 0, 0, 0, 0, flags, 0, 0, 0],
         ));
-        let chase = LinkedRing::new(0, true).next_trb(GuestMemory::new(&bytes))?;
+        let chase = LinkedRing::new(0, true).next_trb(GuestMemory::new(&bytes));
         assert_eq!(chase.answer, Answer::NothingNew);
-        Ok(chase.notes)
+        chase.notes
     };
     let expected = |cleared, completion| Notes {
         links: 1,
         cleared,
         completion,
     };
-    assert_eq!(notes(0x10, 0x01)?, expected(false, false));
-    assert_eq!(notes(0x18, 0x01)?, expected(true, false));
-    assert_eq!(notes(0x10, 0x21)?, expected(false, true));
-    Ok(())
+    assert_eq!(notes(0x10, 0x01), expected(false, false));
+    assert_eq!(notes(0x18, 0x01), expected(true, false));
+    assert_eq!(notes(0x10, 0x21), expected(false, true));
 }
 
 #[test]

@@ -10,6 +10,7 @@ mod measure;
 mod original;
 mod port;
 mod table;
+mod verdict;
 
 use line::Line;
 use std::error::Error;
@@ -25,6 +26,8 @@ struct Subject {
 
 /// The subject that the others are held against.
 const PORT: usize = 0;
+/// The original over its plain bus.
+const ORIGINAL_AT: usize = 1;
 
 const SUBJECTS: [Subject; 4] = [
     Subject {
@@ -73,7 +76,7 @@ pub fn main(words: &[String]) -> Result<(), Box<dyn Error>> {
             let subject = SUBJECTS
                 .get(subject.parse::<usize>()?)
                 .ok_or("no such subject")?;
-            let line = Line::ALL
+            let (line, _) = Line::ALL
                 .get(line.parse::<usize>()?)
                 .ok_or("no such line")?;
             (subject.run)(*line, rounds.parse()?);
@@ -94,12 +97,19 @@ fn print() -> Result<(), Box<dyn Error>> {
         println!("left out: the C functions, as there is no C compiler");
     }
     let has: Vec<_> = Line::ALL
-        .map(|line| SUBJECTS.each_ref().map(|s| (s.run)(line, 0)))
+        .map(|(line, _)| SUBJECTS.each_ref().map(|s| (s.run)(line, 0)))
         .into();
     match measure::instructions(&has)? {
-        Some(counts) => print!("{}", table::rows("instructions", &counts)),
+        Some(counts) => {
+            let verdict = verdict::of_instructions;
+            print!("{}", table::rows("instructions", &counts, verdict));
+        }
         None => println!("left out: instructions, as there is no valgrind"),
     }
-    print!("{}", table::rows("ns", &measure::nanoseconds(&has)));
+    let times = measure::nanoseconds(&has);
+    print!(
+        "{}",
+        table::rows("ns", &times, |_, row| verdict::of_time(row))
+    );
     Ok(())
 }

@@ -241,8 +241,7 @@ fn each_chase_ends_where_linux_enqueues() {
     for words in capture.rings.lines().filter(chased).map(Words) {
         let mut ring = LinkedRing::new(words.pointer("first"), true);
         let end = loop {
-            let chase = ring.next_trb(memory).expect("inside memory");
-            match chase.answer {
+            match ring.next_trb(memory).answer {
                 Answer::Trb(_) => ring.advance(),
                 end => break end,
             }

@@ -7,10 +7,10 @@ use Rattle.replay.proofs.all_lines.Statement.{statement}
 use Rattle.replay.proofs.all_lines.Tie as tie
 
 abbrev Inv-loop : tie.InvT-loop
-Inv-loop text memory₀ counts₀ setting₀ number-of-line₀ at₀ memory counts setting number-of-line at = length memory ≡ length memory₀
+Inv-loop text memory₀ counts₀ ring₀ size₀ at₀ memory counts ring size at = length memory ≡ length memory₀
 
 abbrev μ-loop : tie.MeasureT-loop
-μ-loop text memory₀ counts₀ setting₀ number-of-line₀ at₀ memory counts setting number-of-line at = length text - at
+μ-loop text memory₀ counts₀ ring₀ size₀ at₀ memory counts ring size at = length text - at
 
 pub all-lines-spec : {M : Type 1} → statement M
 all-lines-spec =
@@ -18,9 +18,7 @@ all-lines-spec =
     (tie.spec
     Inv-loop
     μ-loop
-    (λ c κs. search needs)
     (λ c. search needs)
-    (λ c κs. search needs)
     (λ c κs. search needs)
     (λ c. search needs)
     (λ c. search needs)

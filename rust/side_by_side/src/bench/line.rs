@@ -19,18 +19,19 @@ pub enum Line {
 }
 
 impl Line {
-    pub const ALL: [Self; 11] = [
-        Self::ParseCommand,
-        Self::ParseTransfer,
-        Self::ParseMixed,
-        Self::EventWrite,
-        Self::EventRead,
-        Self::NextTrb { links: 0 },
-        Self::NextTrb { links: 1 },
-        Self::NextTrb { links: 16 },
-        Self::Add { segments: 1 },
-        Self::Add { segments: 4 },
-        Self::Take,
+    /// Every line, and how many instructions a call of the port's may take at most.
+    pub const ALL: [(Self, u32); 11] = [
+        (Self::ParseCommand, 36),
+        (Self::ParseTransfer, 38),
+        (Self::ParseMixed, 37),
+        (Self::EventWrite, 40),
+        (Self::EventRead, 65),
+        (Self::NextTrb { links: 0 }, 68),
+        (Self::NextTrb { links: 1 }, 105),
+        (Self::NextTrb { links: 16 }, 560),
+        (Self::Add { segments: 1 }, 100),
+        (Self::Add { segments: 4 }, 105),
+        (Self::Take, 85),
     ];
 }
 

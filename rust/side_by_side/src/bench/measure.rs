@@ -63,7 +63,7 @@ fn collected(subject: usize, line: usize, rounds: u64) -> Result<u64, Box<dyn Er
 /// The nanoseconds of a call: the best of several runs, the subjects taking turns.
 pub fn nanoseconds(has: &[Has]) -> Vec<Row> {
     const TURNS: usize = 40;
-    let row = |(line, has): (&Line, &Has)| {
+    let row = |((line, _), has): (&(Line, u32), &Has)| {
         let mut row = [None; SUBJECTS.len()];
         for turn in 0..TURNS * row.len() {
             let subject = turn % row.len();

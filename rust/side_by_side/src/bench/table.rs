@@ -4,16 +4,18 @@ use super::line::Line;
 use super::measure::Row;
 use super::{PORT, SUBJECTS};
 
-/// A table of what was measured: each number, and its ratio to the port's.
-pub fn rows(unit: &str, measured: &[Row]) -> String {
+/// A table of what was measured: each number, its ratio to the port's, and the verdict on the line, given its limit.
+pub fn rows(unit: &str, measured: &[Row], verdict: fn(u32, &Row) -> String) -> String {
     let names: String = SUBJECTS.iter().map(|s| format!(" {} |", s.name)).collect();
-    let rule = "---|".repeat(SUBJECTS.len() + 1);
+    let rule = "---|".repeat(SUBJECTS.len() + 2);
     let rows: String = Line::ALL
         .iter()
         .zip(measured)
-        .map(|(line, row)| format!("| {line} |{}\n", cells(row)))
+        .map(|((line, limit), row)| {
+            format!("| {line} |{} {} |\n", cells(row), verdict(*limit, row))
+        })
         .collect();
-    format!("\n| {unit} of a call |{names}\n|{rule}\n{rows}")
+    format!("\n| {unit} of a call |{names} verdict |\n|{rule}\n{rows}")
 }
 
 fn cells(row: &Row) -> String {

@@ -143,6 +143,16 @@ pub fn link(raw: p::RawTrbBuffer) -> Option<p::LinkTrb> {
     })
 }
 
+/// What a chase out of memory comes to here. The original has no word for it.
+pub const REFUSED: Chase = Chase {
+    answer: Answer::Refused(Refusal::Outside),
+    notes: Notes {
+        links: 0,
+        cleared: false,
+        completion: false,
+    },
+};
+
 /// A chase of the original's: what it came to, with the warnings as notes.
 ///
 /// Each fresh TRB is read in one piece, so the reads tell how many links were followed: all that were read but the last,

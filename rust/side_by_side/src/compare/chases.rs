@@ -4,7 +4,7 @@ use super::books;
 use crate::random::Random;
 use crate::tally::Tally;
 use lomvigast::linked_ring::LinkedRing;
-use lomvigast::{GuestMemory, Refusal};
+use lomvigast::GuestMemory;
 use original::device::bus::{BusDeviceRef, Memory};
 use original::device::xhci::linked_ring::LinkedRing as Original;
 
@@ -76,14 +76,10 @@ impl Stage {
         let input = (place, cycle, &self.bytes);
         if self.bus.outside() != 0 || last.is_none() {
             tally.outside("a byte to be touched is not in memory: refused with 1 here");
-            let refused = (Err(Refusal::Outside), (place, cycle));
+            let refused = (books::REFUSED, (place, cycle));
             tally.hold(&input, refused, (ours, port.get_dequeue_pointer()));
         } else {
-            tally.hold(
-                &input,
-                (Ok(theirs), end),
-                (ours, port.get_dequeue_pointer()),
-            );
+            tally.hold(&input, (theirs, end), (ours, port.get_dequeue_pointer()));
         }
         tally.hold(&input, true, self.bus.holds(&self.bytes));
     }

@@ -1,4 +1,4 @@
--- Field by field. Assumes nothing.
+-- Word by word. Assumes nothing.
 use borrow.Author.Needs.{needs}
 use Rattle.lomvigast_ffi.proofs.linked.flat_chase.Statement.{statement}
 use Rattle.lomvigast_ffi.proofs.linked.flat_chase.Tie as tie
@@ -9,4 +9,6 @@ flat-chase-spec =
     (tie.spec
     (λ c κs. search needs)
     (λ c κs. search needs)
-    (λ c. rw (c .refusal .ensures, c .before .kind .ensures)))
+    (λ c κs. search needs)
+    (λ c κs. search needs)
+    (λ c. rw (c .notes-word .ensures, c .before .high .ensures, c .before .before .low .ensures, c .before .before .before .kind .ensures)))

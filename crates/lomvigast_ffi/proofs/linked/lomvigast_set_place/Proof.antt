@@ -1,4 +1,4 @@
--- The ring, flat. Assumes nothing.
+-- The place, and the flag as a number. Assumes nothing.
 use borrow.Author.Needs.{needs}
 use Rattle.lomvigast_ffi.proofs.linked.lomvigast_set_place.Statement.{statement}
 use Rattle.lomvigast_ffi.proofs.linked.lomvigast_set_place.Tie as tie
@@ -9,4 +9,4 @@ lomvigast-set-place-spec =
     (tie.spec
     (λ c κs. search needs)
     (λ c κs. search needs)
-    (λ c. rw (c .flat-ring .ensures, c .before .new .ensures)))
+    (λ c. rw (c .put .ensures, c .before .bit .ensures .0)))

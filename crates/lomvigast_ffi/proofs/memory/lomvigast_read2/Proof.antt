@@ -1,4 +1,4 @@
--- The answer of `read2`, flat. Assumes nothing.
+-- What was read, flat. Assumes nothing.
 use borrow.Author.Needs.{needs}
 use Rattle.lomvigast_ffi.proofs.memory.lomvigast_read2.Statement.{statement}
 use Rattle.lomvigast_ffi.proofs.memory.lomvigast_read2.Tie as tie

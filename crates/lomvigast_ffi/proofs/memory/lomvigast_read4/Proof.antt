@@ -1,4 +1,4 @@
--- The answer of `read4`, flat. Assumes nothing.
+-- What was read, flat. Assumes nothing.
 use borrow.Author.Needs.{needs}
 use Rattle.lomvigast_ffi.proofs.memory.lomvigast_read4.Statement.{statement}
 use Rattle.lomvigast_ffi.proofs.memory.lomvigast_read4.Tie as tie

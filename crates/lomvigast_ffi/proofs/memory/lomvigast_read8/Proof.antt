@@ -1,4 +1,4 @@
--- The answer of `read8`, flat. Assumes nothing.
+-- What was read, flat. Assumes nothing.
 use borrow.Author.Needs.{needs}
 use Rattle.lomvigast_ffi.proofs.memory.lomvigast_read8.Statement.{statement}
 use Rattle.lomvigast_ffi.proofs.memory.lomvigast_read8.Tie as tie

@@ -1,7 +1,16 @@
--- The answer of `configure`, flat. Assumes nothing.
+-- By what configure answered. Assumes nothing.
+use mathlib.Core.Path.{_≡_, refl, sym, ap, ap₂, _∙_}
+use borrow.Author.Tests.{eq-eqb, ne-eqb}
+use Rattle.event_ring.specs.Ring.{readerAt, readerConfigured}
+use Rattle.event_ring.specs.declared.EventRing.{EventRing}
+use Rattle.lomvigast_ffi.specs.Rings.{stateOf}
 use borrow.Author.Needs.{needs}
 use Rattle.lomvigast_ffi.proofs.rings.lomvigast_configure_reader.Statement.{statement}
 use Rattle.lomvigast_ffi.proofs.rings.lomvigast_configure_reader.Tie as tie
+
+came : (c : tie.After-configure) → let x = c .before .before .before .before .args in c .configure .result ≡ readerConfigured (x .mem .now) (readerAt (stateOf (x .reader .now))) (x .table) (x .entries)
+came c = let x = c .before .before .before .before .args in
+    c .configure .ensures ∙ ap (λ (s : EventRing). readerConfigured (x .mem .now) (readerAt s) (x .table) (x .entries)) (c .before .state .ensures)
 
 pub lomvigast-configure-reader-spec : {M : Type 1} → statement M
 lomvigast-configure-reader-spec =
@@ -9,4 +18,6 @@ lomvigast-configure-reader-spec =
     (tie.spec
     (λ c κs. search needs)
     (λ c κs. search needs)
-    (λ c. rw (c .flat-reader .ensures, c .before .configure .ensures)))
+    (λ c. rw (← came (c .before .before), ne-eqb _ 0 (c .if1 .taken)) (refl, refl))
+    (λ c κs. search needs)
+    (λ c. let f = c .before .before .before in rw (← came (f .before .before), eq-eqb _ 0 (f .if1 .left)) (sym (f .if1 .left), c .put .ensures)))

@@ -1,4 +1,3 @@
--- The answer of `parse`, flat. Assumes nothing.
 use borrow.Author.Needs.{needs}
 use Rattle.trb_ffi.proofs.commands.lomvigast_parse_command.Statement.{statement}
 use Rattle.trb_ffi.proofs.commands.lomvigast_parse_command.Tie as tie
@@ -9,4 +8,5 @@ lomvigast-parse-command-spec =
     (tie.spec
     (λ c κs. search needs)
     (λ c κs. search needs)
-    (λ c. rw (c .flat-parsed .ensures, c .before .parse .ensures)))
+    (λ c κs. search needs)
+    (λ c. rw (c .put .ensures, c .before .before .parse .ensures, c .before .before .before .whole .ensures)))

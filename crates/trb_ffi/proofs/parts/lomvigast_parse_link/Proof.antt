@@ -9,4 +9,5 @@ lomvigast-parse-link-spec =
     (tie.spec
     (λ c κs. search needs)
     (λ c κs. search needs)
-    (λ c. rw (c .flat-link .ensures, c .before .parse .ensures)))
+    (λ c κs. search needs)
+    (λ c. rw (c .flat-link .ensures, c .before .parse .ensures, c .before .before .whole .ensures)))

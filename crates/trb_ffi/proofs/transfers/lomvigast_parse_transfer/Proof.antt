@@ -1,4 +1,3 @@
--- The answer of `parse`, flat. Assumes nothing.
 use borrow.Author.Needs.{needs}
 use Rattle.trb_ffi.proofs.transfers.lomvigast_parse_transfer.Statement.{statement}
 use Rattle.trb_ffi.proofs.transfers.lomvigast_parse_transfer.Tie as tie
@@ -9,4 +8,5 @@ lomvigast-parse-transfer-spec =
     (tie.spec
     (λ c κs. search needs)
     (λ c κs. search needs)
-    (λ c. rw (c .flat-parsed .ensures, c .before .parse .ensures)))
+    (λ c κs. search needs)
+    (λ c. rw (c .put .ensures, c .before .before .parse .ensures, c .before .before .before .whole .ensures)))

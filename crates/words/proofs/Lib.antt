@@ -1,0 +1,5 @@
+pub mod Listed
+pub mod Written
+pub mod Read
+pub mod Apart
+pub mod Back
