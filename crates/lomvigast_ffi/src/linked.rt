@@ -29,12 +29,6 @@ pub struct CChase {
     pub notes: u64,
 }
 
-fn bit(b: bool) -> u64
-    ensures { λ r. ⌜ (r ≡ bit b) × (r < 2) ⌝ }
-{
-    if b { 1 } else { 0 }
-}
-
 fn ring_of(ring: &CLinkedRing) -> LinkedRing
     ensures { λ r. ⌜ r ≡ ringOf (now (ring .entry)) ⌝ }
 {
@@ -72,7 +66,7 @@ fn refusal(answer: Answer) -> u8
 fn notes_word(n: Notes) -> u64
     ensures { λ r. ⌜ r ≡ notesWord n ⌝ }
 {
-    (n.links as u64) + bit(n.cleared) * 0x1_0000 + bit(n.completion) * 0x100_0000
+    (n.links as u64) + words::bit(n.cleared) * 0x1_0000 + words::bit(n.completion) * 0x100_0000
 }
 
 fn flat_chase(c: Chase) -> CChase
@@ -107,7 +101,7 @@ fn go_on(mem: &[u8], ring: &mut CLinkedRing, place: u64, cycle: u64, links: u16)
     if refusal(answer) != 0 {
         return flat_chase(c);
     }
-    put(ring, c.ring.place, bit(c.ring.cycle));
+    put(ring, c.ring.place, words::bit(c.ring.cycle));
     flat_chase(c)
 }
 
@@ -182,5 +176,5 @@ pub extern "C" fn lomvigast_advance(ring: &mut CLinkedRing)
 pub extern "C" fn lomvigast_set_place(ring: &mut CLinkedRing, place: u64, cycle: bool)
     ensures { λ _. ⌜ now (ring .exit) ≡ ringWords (ringAt place cycle) ⌝ }
 {
-    put(ring, place, bit(cycle))
+    put(ring, place, words::bit(cycle))
 }

@@ -4,7 +4,6 @@ use event_ring::EventRing;
 use event_ring::Take;
 use trb::event::EventVariant;
 ghost use mathlib.Core.Path.{_≡_};
-ghost use Rattle.trb.specs.Trb.{bit};
 ghost use Rattle.event_ring.specs.Ring.{empty, configured, readerAt, readerConfigured, take};
 ghost use Rattle.words.specs.Events.{eventIn};
 ghost use Rattle.lomvigast_ffi.specs.Rings.{wordsOf, fits, stateOf, plain, stepped, ringAfter, readerAfter, addedFrom, memoryFrom, ringFrom, takeNumber, putTaken, takenFrom};
@@ -29,12 +28,6 @@ const CYCLE: usize = 6;
 
 // What `lomvigast_take` answers where there is no event. No refusal has this number.
 const NOTHING: u8 = 255;
-
-fn bit(b: bool) -> u64
-    ensures { λ r. ⌜ r ≡ bit b ⌝ }
-{
-    if b { 1 } else { 0 }
-}
 
 fn fits(ring: &CEventRing) -> bool
     ensures { λ r. ⌜ r ≡ fits (now (ring .entry)) ⌝ }
@@ -72,8 +65,8 @@ fn put(ring: &mut CEventRing, s: EventRing)
         s.remaining as u64,
         s.index as u64,
         s.entries as u64,
-        bit(s.ready),
-        bit(s.cycle),
+        words::bit(s.ready),
+        words::bit(s.cycle),
     ];
 }
 

@@ -26,7 +26,7 @@ fn with_endpoint(kind: u8, endpoint: u8, slot: u8) -> u64
 fn with_flag(slot: u8, flag: bool) -> u64
     ensures { λ r. ⌜ r ≡ slot + bit flag * 2 ^ 8 ⌝ }
 {
-    crate::packing::wide(slot) + crate::packing::bit(flag) * 0x100
+    crate::packing::wide(slot) + words::bit(flag) * 0x100
 }
 
 // The stream id, the endpoint, the slot, the cycle state and the stream context type.
@@ -37,7 +37,7 @@ fn dequeue(d: SetTrDequeuePointerCommandTrbData) -> u64
     (d.stream_id as u64)
         + crate::packing::wide(d.endpoint_id) * 0x1_0000
         + crate::packing::wide(d.slot_id) * 0x100_0000
-        + crate::packing::bit(d.dequeue_cycle_state) * 0x1_0000_0000
+        + words::bit(d.dequeue_cycle_state) * 0x1_0000_0000
         + crate::packing::wide(d.stream_context_type) * 0x100_0000_0000
 }
 

@@ -1,13 +1,6 @@
-// Flags and bytes as numbers, and sixteen bytes moved up by one in the words of an answer.
+// Bytes as numbers, and sixteen bytes moved up by one in the words of an answer.
 ghost use mathlib.Core.Path.{_≡_};
 ghost use Prim.Native.Nat.{_+_, _*_, _/_, _%_, _^_, _<_, _≤_};
-ghost use Rattle.trb.specs.Trb.{bit};
-
-pub(crate) fn bit(b: bool) -> u64
-    ensures { λ r. ⌜ (r ≡ bit b) × (r < 2) ⌝ }
-{
-    if b { 1 } else { 0 }
-}
 
 pub(crate) fn wide(x: u8) -> u64
     ensures { λ r. ⌜ r ≡ x ⌝ }

@@ -47,33 +47,31 @@ fn length_and(length: u32, chain: bool, completion: bool, immediate: bool, short
     ensures { λ r. ⌜ r ≡ lengthAnd length chain completion immediate short ⌝ }
 {
     (length as u64)
-        + crate::packing::bit(chain) * 0x1_0000_0000
-        + crate::packing::bit(completion) * 0x100_0000_0000
-        + crate::packing::bit(immediate) * 0x1_0000_0000_0000
-        + crate::packing::bit(short) * 0x100_0000_0000_0000
+        + words::bit(chain) * 0x1_0000_0000
+        + words::bit(completion) * 0x100_0000_0000
+        + words::bit(immediate) * 0x1_0000_0000_0000
+        + words::bit(short) * 0x100_0000_0000_0000
 }
 
 fn flags(kind: u8, chain: bool, completion: bool) -> u64
     ensures { λ r. ⌜ r ≡ kind + bit chain * 2 ^ 8 + bit completion * 2 ^ 16 ⌝ }
 {
-    crate::packing::wide(kind)
-        + crate::packing::bit(chain) * 0x100
-        + crate::packing::bit(completion) * 0x1_0000
+    crate::packing::wide(kind) + words::bit(chain) * 0x100 + words::bit(completion) * 0x1_0000
 }
 
 fn status(chain: bool, completion: bool, direction: bool) -> u64
     ensures { λ r. ⌜ r ≡ 4 + bit chain * 2 ^ 8 + bit completion * 2 ^ 16 + bit direction * 2 ^ 24 ⌝ }
 {
     4
-        + crate::packing::bit(chain) * 0x100
-        + crate::packing::bit(completion) * 0x1_0000
-        + crate::packing::bit(direction) * 0x100_0000
+        + words::bit(chain) * 0x100
+        + words::bit(completion) * 0x1_0000
+        + words::bit(direction) * 0x100_0000
 }
 
 fn event_data(chain: bool, completion: bool) -> u64
     ensures { λ r. ⌜ r ≡ bit chain + bit completion * 2 ^ 8 ⌝ }
 {
-    crate::packing::bit(chain) + crate::packing::bit(completion) * 0x100
+    words::bit(chain) + words::bit(completion) * 0x100
 }
 
 fn setup(d: SetupStageTrb) -> u64
@@ -89,7 +87,7 @@ fn setup(d: SetupStageTrb) -> u64
 fn setup_length(d: SetupStageTrb) -> u64
     ensures { λ r. ⌜ r ≡ d .length + bit (d .«interrupt_on_completion») * 2 ^ 16 ⌝ }
 {
-    (d.length as u64) + crate::packing::bit(d.interrupt_on_completion) * 0x1_0000
+    (d.length as u64) + words::bit(d.interrupt_on_completion) * 0x1_0000
 }
 
 fn normal(d: NormalTrb) -> u64
@@ -143,7 +141,7 @@ fn put(out: &mut [u64; 4], variant: TransferTrbVariant, low: u64, high: u64)
             trb_types::DATA_STAGE as u64,
             d.data_pointer,
             data(d),
-            crate::packing::bit(d.direction),
+            words::bit(d.direction),
         ),
         TransferTrbVariant::StatusStage(d) => one(
             out,

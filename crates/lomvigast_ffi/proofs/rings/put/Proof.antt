@@ -12,4 +12,4 @@ put-spec =
     (λ c. search needs)
     (λ c κs. search needs)
     (λ c κs. search needs)
-    (λ c. rw (c .before .bit2 .ensures, c .before .before .bit .ensures)))
+    (λ c. rw (c .before .bit2 .ensures .0, c .before .before .bit .ensures .0)))
