@@ -12,6 +12,7 @@ use lomvigast::{GuestMemory, GuestMemoryMut};
 use std::fmt::Display;
 use std::fs::File;
 use std::io::Read;
+use std::ops::Range;
 use std::path::Path;
 
 /// The length of memory where the user names none: 128 MiB.
@@ -19,8 +20,8 @@ pub const LENGTH: usize = 128 << 20;
 
 pub struct Capture {
     memory: Vec<u8>,
-    /// Memory before this address is 0 because nobody knows it.
-    pub known_from: u64,
+    /// Where an image begins and ends: the lent bytes before it are 0 because nobody knows them. `None` if all is known.
+    image: Option<Range<u64>>,
     pub rings: Vec<Ring>,
 }
 
@@ -28,15 +29,35 @@ pub struct Ring {
     pub kind: Kind,
     pub name: String,
     pub start: Start,
-    /// Where the driver said it stood, with its cycle state: its dequeue place on an event ring, else its enqueue place.
-    pub driver: Option<(u64, bool)>,
+    pub driver: Option<Driver>,
 }
+
+/// Where the driver said it stood.
+#[derive(Debug, Clone, Copy, PartialEq, Eq)]
+pub struct Driver {
+    /// Before this place it has seen all done: events taken, commands and transfers ended.
+    pub dequeue: u64,
+    /// Where it writes next; on an event ring it does not write.
+    pub enqueue: Option<u64>,
+    /// Its cycle state: where it writes, or on an event ring where it takes.
+    pub cycle: bool,
+}
+
+impl Driver {
+    /// Its own place: where it writes, or on an event ring where it takes.
+    pub fn place(&self) -> Place {
+        (self.enqueue.unwrap_or(self.dequeue), self.cycle)
+    }
+}
+
+/// A place and the cycle state there.
+pub type Place = (u64, bool);
 
 /// Where a reader begins.
 #[derive(Debug, Clone, Copy, PartialEq, Eq)]
 pub enum Start {
-    /// A place and a cycle state.
-    Linked(u64, bool),
+    /// The first TRB, and the cycle state there if it is known.
+    Linked(u64, Option<bool>),
     /// A segment table's base and number of entries.
     Table(u64, u16),
 }
@@ -45,9 +66,18 @@ impl Capture {
     pub fn new(memory: Vec<u8>, rings: Vec<Ring>) -> Self {
         Self {
             memory,
-            known_from: 0,
+            image: None,
             rings,
         }
+    }
+
+    /// Whether all these bytes are known; not so what an image does not hold.
+    pub fn knows(&self, address: u64, length: u64) -> bool {
+        let Some(image) = &self.image else {
+            return true;
+        };
+        let end = address.checked_add(length);
+        image.start <= address && end.is_some_and(|end| end <= image.end)
     }
 
     pub fn memory(&self) -> GuestMemory<'_> {
@@ -84,7 +114,7 @@ impl Capture {
         Ok(Self::new(memory, rings))
     }
 
-    /// A raw image that begins at an address; memory before it counts as zero.
+    /// A raw image that begins at an address.
     pub fn of_image(image: &Path, base: u64, rings: Vec<Ring>) -> Result<Self, Stop> {
         let bytes = read(image)?;
         let end = base.saturating_add(bytes.len() as u64);
@@ -97,7 +127,7 @@ impl Capture {
         let mut memory = zeroed(end as usize).map_err(Stop::Misuse)?;
         memory[base as usize..].copy_from_slice(&bytes);
         Ok(Self {
-            known_from: base,
+            image: Some(base..end),
             ..Self::new(memory, rings)
         })
     }
@@ -119,13 +149,14 @@ fn ring_line(kind: &str, table: Option<Start>, words: &mut Words<'_>) -> Result<
     let dequeue = words.number("the dequeue place")?;
     words.exactly("enqueue")?;
     let enqueue = words.number("the enqueue place")?;
-    let (kind, start, driver) = match kind {
-        // A ring's first pass has cycle state 1.
-        "command" => (Kind::Command, Start::Linked(first, true), enqueue),
-        "transfer" => (Kind::Transfer, Start::Linked(first, true), enqueue),
+    // A ring's first pass has cycle state 1.
+    let linked = Start::Linked(first, Some(true));
+    let (kind, start, enqueue) = match kind {
+        "command" => (Kind::Command, linked, Some(enqueue)),
+        "transfer" => (Kind::Transfer, linked, Some(enqueue)),
         "event" => {
             let table = table.ok_or("an event ring needs a line `table` before it")?;
-            (Kind::Event, table, dequeue)
+            (Kind::Event, table, None)
         }
         _ => {
             let kind = quoted(kind);
@@ -138,7 +169,11 @@ fn ring_line(kind: &str, table: Option<Start>, words: &mut Words<'_>) -> Result<
         kind,
         name,
         start,
-        driver: Some((driver, cycle)),
+        driver: Some(Driver {
+            dequeue,
+            enqueue,
+            cycle,
+        }),
     })
 }
 

@@ -1,6 +1,6 @@
 //! The arguments, and what is done for them.
 
-use crate::capture::{Capture, Ring, Start, LENGTH};
+use crate::capture::{Capture, Driver, Ring, Start, LENGTH};
 use crate::lines::{self, quoted};
 use crate::output::{Output, Stop};
 use crate::script::MEMORY_LIMIT;
@@ -173,7 +173,9 @@ fn show_of(arguments: &[OsString], out: &mut Output<'_>) -> Result<(), Stop> {
         "--base",
         "--table",
         "--entries",
+        "--dequeue",
         "--ring",
+        "--most",
     ];
     let given =
         Given::new(arguments, &["--json"], &options).map_err(|fault| misuse(fault, HELP))?;
@@ -181,11 +183,19 @@ fn show_of(arguments: &[OsString], out: &mut Output<'_>) -> Result<(), Stop> {
         return Ok(out.line(help::SHOW)?);
     }
     let wanted = wanted(&given).map_err(|fault| misuse(fault, HELP))?;
+    let most = given
+        .number("--most")
+        .map_err(|fault| misuse(fault, HELP))?;
     let capture = match wanted {
         Wanted::Folder(folder, length) => Capture::of_folder(folder, length)?,
         Wanted::Image(image, base, rings) => Capture::of_image(image, base, rings)?,
     };
-    show::show(&capture, given.has("--json"), out)
+    show::show(
+        &capture,
+        given.has("--json"),
+        most.unwrap_or(show::MOST),
+        out,
+    )
 }
 
 /// Which capture is to be shown.
@@ -203,7 +213,7 @@ fn wanted<'a>(given: &Given<'a>) -> Result<Wanted<'a>, String> {
     match (folder, image) {
         (Some(folder), None) => {
             only(
-                &["--base", "--table", "--entries", "--ring"],
+                &["--base", "--table", "--entries", "--dequeue", "--ring"],
                 "--memory FILE",
             )?;
             let length = given.number("--length")?.unwrap_or(LENGTH);
@@ -227,18 +237,20 @@ fn rings(given: &Given<'_>) -> Result<Vec<Ring>, String> {
     let mut rings = Vec::new();
     for value in given.all("--ring") {
         let value = value.to_string_lossy();
-        let (place, cycle) = match value.rsplit_once(',') {
-            None => (&*value, "1"),
-            Some(parts) => parts,
-        };
-        let cycle = lines::bit("the cycle state of --ring", cycle)?;
-        let start = Start::Linked(lines::number("--ring", place)?, cycle);
-        rings.push(named(Kind::Any, place, start));
+        let (place, cycle) = place_and_cycle("--ring", &value)?;
+        let name = value.split(',').next().unwrap_or_default();
+        let start = Start::Linked(place, cycle);
+        rings.push(named(Kind::Any, name, start, None));
     }
+    let driver = dequeue(given)?;
     match (given.number("--table")?, given.number("--entries")?) {
+        (None, None) if driver.is_some() => {
+            return Err("--dequeue goes with --table and --entries".to_owned())
+        }
         (None, None) => {}
         (Some(table), Some(entries)) => {
-            rings.push(named(Kind::Event, "events", Start::Table(table, entries)));
+            let start = Start::Table(table, entries);
+            rings.push(named(Kind::Event, "events", start, driver));
         }
         _ => return Err("--table and --entries go together".to_owned()),
     }
@@ -250,11 +262,37 @@ fn rings(given: &Given<'_>) -> Result<Vec<Ring>, String> {
     Ok(rings)
 }
 
-fn named(kind: Kind, name: &str, start: Start) -> Ring {
+/// Where the driver stands on the event ring.
+fn dequeue(given: &Given<'_>) -> Result<Option<Driver>, String> {
+    let Some(value) = given.one("--dequeue")? else {
+        return Ok(None);
+    };
+    match place_and_cycle("--dequeue", &value.to_string_lossy())? {
+        (dequeue, Some(cycle)) => Ok(Some(Driver {
+            dequeue,
+            enqueue: None,
+            cycle,
+        })),
+        _ => Err("--dequeue needs the driver's cycle state behind the address, ,0 or ,1".into()),
+    }
+}
+
+/// An address, and behind a comma the cycle state there.
+fn place_and_cycle(option: &str, value: &str) -> Result<(u64, Option<bool>), String> {
+    let (place, cycle) = match value.rsplit_once(',') {
+        None => (value, None),
+        Some((place, cycle)) => (place, Some(cycle)),
+    };
+    let what = format!("the cycle state of {option}");
+    let cycle = cycle.map(|cycle| lines::bit(&what, cycle)).transpose()?;
+    Ok((lines::number(option, place)?, cycle))
+}
+
+fn named(kind: Kind, name: &str, start: Start, driver: Option<Driver>) -> Ring {
     Ring {
         kind,
         name: name.to_owned(),
         start,
-        driver: None,
+        driver,
     }
 }

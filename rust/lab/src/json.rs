@@ -19,6 +19,13 @@ impl Object {
         self.field(key, &value.to_string())
     }
 
+    pub fn optional(self, key: &str, value: Option<u64>) -> Self {
+        match value {
+            Some(value) => self.number(key, value),
+            None => self,
+        }
+    }
+
     /// An address, as text in hex: JSON's numbers are not sure to hold 64 bits.
     pub fn address(self, key: &str, value: u64) -> Self {
         self.text(key, &format!("{value:#x}"))

@@ -52,8 +52,14 @@ impl<'a> Output<'a> {
             Tone::Nothing => "36",
             Tone::Refused => "33",
             Tone::GaveUp => "1;31",
+            Tone::Unknown => "1;35",
         };
         self.painted(code, text)
+    }
+
+    /// Writes what is kept back: for whoever waits for an answer before the next command.
+    pub fn flush(&mut self) -> io::Result<()> {
+        self.to.flush()
     }
 
     pub fn heading(&mut self, text: impl fmt::Display) -> io::Result<()> {

@@ -74,7 +74,7 @@ pub fn run(input: &mut dyn BufRead, json: bool, out: &mut Output<'_>) -> Result<
         } else {
             out.toned(step.answer.tone(), step.answer)?;
         }
-        Ok(())
+        Ok(out.flush()?)
     })
 }
 
@@ -85,6 +85,10 @@ fn object(step: &Step<'_>) -> String {
         .text("answer", word);
     let object = match number {
         Some((name, number)) => object.number(name, number),
+        None => object,
+    };
+    let object = match step.answer.warning() {
+        Some(warning) => object.text("warning", &warning),
         None => object,
     };
     object.text("words", &step.answer.to_string()).line()

@@ -4,145 +4,35 @@ use crate::capture::{Capture, Ring, Start};
 use crate::json::Object;
 use crate::output::{Output, Stop};
 use crate::trbs::{self, Kind};
+use crate::walk::{self, Ending, Found, Part, Reading, Stage};
 use crate::words::{bytes, count, refused, Tone};
-use crate::world::{chase, Answer};
-use lomvigast::event_ring::{EventReader, RingState};
-use lomvigast::linked_ring::{self, LinkedRing};
-use lomvigast::trb::{cycle_bit, trb_type, RawTrbBuffer};
-use lomvigast::GuestMemory;
-use std::collections::HashSet;
-use std::io;
+use lomvigast::trb::{cycle_bit, trb_type};
 
-/// A TRB that a reader was answered.
-pub struct Found {
-    pub address: u64,
-    pub trb: RawTrbBuffer,
-    /// How many links were followed to it.
-    pub links: u16,
-}
+/// The most TRBs that are listed of a capture, where the user names no number.
+pub const MOST: usize = 16_384;
 
-/// What ended a ring.
-pub struct End {
-    /// The core's last answer, or `None` if the reader came to a place and cycle state where it had been, so that it would
-    /// go round for ever.
-    pub answer: Option<Answer>,
-    /// Where the reader stands.
-    pub place: u64,
-    pub cycle: bool,
-    /// How many TRBs it was answered.
-    pub trbs: usize,
-}
-
-/// Shows each ring of a capture.
-pub fn show(capture: &Capture, json: bool, out: &mut Output<'_>) -> Result<(), Stop> {
+/// Shows each ring of a capture, and of all rings together at most so many TRBs.
+pub fn show(capture: &Capture, json: bool, most: usize, out: &mut Output<'_>) -> Result<(), Stop> {
+    let mut left = most;
     for ring in &capture.rings {
-        if json {
-            let end = walk(capture.memory(), ring, &mut |found| {
-                out.line(found_object(ring, found))
-            })?;
-            out.line(end_object(ring, &end, capture))?;
-        } else {
+        if !json {
             out.heading(head_words(ring))?;
-            let end = walk(capture.memory(), ring, &mut |found| {
-                let (tone, words) = found_words(ring.kind, found);
-                out.toned(tone, format!("  {words}"))
-            })?;
-            let words = end_words(ring, &end, capture);
-            let driver = driver_words(ring, &end);
-            out.toned(
-                end.tone(),
-                format!("  {words}; {}{driver}", count(end.trbs, "TRB")),
-            )?;
+        }
+        for reading in walk::read(capture, ring, left) {
+            left -= reading.trbs();
+            let shown = Shown {
+                capture,
+                ring,
+                reading: &reading,
+                most,
+            };
+            match json {
+                true => shown.objects(out)?,
+                false => shown.lines(out)?,
+            }
         }
     }
     Ok(())
-}
-
-/// Takes a ring's TRBs until an answer ends them.
-pub fn walk(
-    memory: GuestMemory<'_>,
-    ring: &Ring,
-    heed: &mut dyn FnMut(&Found) -> io::Result<()>,
-) -> io::Result<End> {
-    match ring.start {
-        Start::Linked(place, cycle) => linked(memory, LinkedRing::new(place, cycle), heed),
-        Start::Table(table, entries) => events(memory, table, entries, heed),
-    }
-}
-
-fn linked(
-    memory: GuestMemory<'_>,
-    mut ring: LinkedRing,
-    heed: &mut dyn FnMut(&Found) -> io::Result<()>,
-) -> io::Result<End> {
-    // Without a link a reader only goes up, so it comes back to where it began, or to a place that a link led to.
-    let mut led_to = HashSet::from([ring.get_dequeue_pointer()]);
-    let mut trbs = 0;
-    let answer = loop {
-        let chase = match chase(&mut ring, memory) {
-            Ok(chase) => chase,
-            Err(refusal) => break Some(Answer::Refused(refusal, None)),
-        };
-        let linked_ring::Answer::Trb(trb) = chase.answer else {
-            break Some(Answer::Chase(chase));
-        };
-        let links = chase.notes.links;
-        if links > 0 && !led_to.insert(ring.get_dequeue_pointer()) {
-            break None;
-        }
-        heed(&Found {
-            address: trb.address,
-            trb: trb.buffer,
-            links,
-        })?;
-        trbs += 1;
-        ring.advance();
-    };
-    let (place, cycle) = ring.get_dequeue_pointer();
-    Ok(End {
-        answer,
-        place,
-        cycle,
-        trbs,
-    })
-}
-
-fn events(
-    memory: GuestMemory<'_>,
-    table: u64,
-    entries: u16,
-    heed: &mut dyn FnMut(&Found) -> io::Result<()>,
-) -> io::Result<End> {
-    let mut reader = EventReader::new();
-    let mut trbs = 0;
-    let mut next = reader.configure(memory, table, entries);
-    let answer = loop {
-        if let Err(refusal) = next {
-            break Answer::Refused(refusal, None);
-        }
-        let address = reader.state().place;
-        next = match reader.take(memory) {
-            Err(refusal) => Err(refusal),
-            Ok(None) => break Answer::None(address),
-            Ok(Some(trb)) => {
-                let links = 0;
-                heed(&Found {
-                    address,
-                    trb,
-                    links,
-                })?;
-                trbs += 1;
-                Ok(())
-            }
-        };
-    };
-    let RingState { place, cycle, .. } = reader.state();
-    Ok(End {
-        answer: Some(answer),
-        place,
-        cycle,
-        trbs,
-    })
 }
 
 fn head_words(ring: &Ring) -> String {
@@ -154,17 +44,177 @@ fn head_words(ring: &Ring) -> String {
         Kind::Any => "",
     };
     match ring.start {
-        Start::Linked(place, cycle) => {
-            let cycle = u8::from(cycle);
-            format!("{kind}ring {name}, from {place:#010x} with cycle state {cycle}")
-        }
+        Start::Linked(first, _) => format!("{kind}ring {name}, first TRB at {first:#010x}"),
         Start::Table(table, entries) => {
             format!("{kind}ring {name}, table at {table:#010x} of size {entries}")
         }
     }
 }
 
-fn found_words(kind: Kind, found: &Found) -> (Tone, String) {
+/// A reading of a ring, and what its words are made of.
+struct Shown<'a> {
+    capture: &'a Capture,
+    ring: &'a Ring,
+    reading: &'a Reading,
+    most: usize,
+}
+
+impl Shown<'_> {
+    fn lines(&self, out: &mut Output<'_>) -> Result<(), Stop> {
+        for part in &self.reading.parts {
+            out.heading(format!(" {}", self.part_words(part)))?;
+            for found in &part.found {
+                let (tone, words) = found_words(self.ring.kind, part.stage, found);
+                out.toned(tone, format!("  {words}"))?;
+            }
+        }
+        let words = self.end_words() + &self.counts() + &self.driver_words();
+        Ok(out.toned(self.tone(), format!("  {words}"))?)
+    }
+
+    fn objects(&self, out: &mut Output<'_>) -> Result<(), Stop> {
+        for part in &self.reading.parts {
+            for found in &part.found {
+                out.line(self.found_object(part.stage, found))?;
+            }
+        }
+        Ok(out.line(self.end_object())?)
+    }
+
+    /// Where a part's reader began, and why there.
+    fn part_words(&self, part: &Part) -> String {
+        let (place, cycle) = (part.from.0, u8::from(part.from.1));
+        let from = format!("{place:#010x} with cycle state {cycle}");
+        match part.stage {
+            Stage::Done => format!("history, from {from}"),
+            Stage::Pending => format!("from the driver's dequeue place, {from}"),
+            Stage::Astray => format!("history NOT LOOKED AT: from {from} the reader does not come to the driver's dequeue place"),
+            Stage::Unknown if self.reading.supposed.is_some() => format!("if the cycle state is {cycle}, from {place:#010x}"),
+            Stage::Unknown => format!("from {from}"),
+        }
+    }
+
+    fn found_object(&self, stage: Stage, found: &Found) -> String {
+        let object = Object::new()
+            .text("ring", &self.ring.name)
+            .address("address", found.address)
+            .number("type", trb_type(&found.trb).into())
+            .number("cycle", cycle_bit(&found.trb).into())
+            .number("links", found.links.into())
+            .text("state", stage_word(stage).unwrap_or("unknown"))
+            .optional("if_cycle", self.reading.supposed.map(u64::from))
+            .text("bytes", &bytes(&found.trb));
+        match trbs::line(self.ring.kind, &found.trb) {
+            Ok(line) => object.text("words", &line),
+            Err(refusal) => object
+                .number("refusal", refusal.number().into())
+                .text("words", &refused(refusal)),
+        }
+        .line()
+    }
+
+    fn tone(&self) -> Tone {
+        match self.reading.supposed {
+            Some(_) => Tone::Unknown,
+            None => self.reading.end.tone(),
+        }
+    }
+
+    /// What ended the ring and why.
+    fn end_words(&self) -> String {
+        let words = ending_words(self.reading, self.most);
+        let words = match self.link_at_end() {
+            Some(link) => format!("{words}; at {:#x} stands {link}", self.reading.at.0),
+            None => words,
+        };
+        match self.reading.supposed {
+            Some(cycle) => {
+                let cycle = u8::from(cycle);
+                format!("UNKNOWN, as nobody said the cycle state; if it is {cycle}: {words}")
+            }
+            None => words,
+        }
+    }
+
+    /// The Link that the reader stands at, if that is why it stopped.
+    fn link_at_end(&self) -> Option<String> {
+        let linked = matches!(self.ring.start, Start::Linked(..));
+        let place = self.reading.at.0;
+        let stopped = matches!(self.reading.end.tone(), Tone::GaveUp | Tone::Refused)
+            || matches!(self.reading.end, Ending::Missing(_));
+        let seen = linked && stopped && self.capture.knows(place, 16);
+        let trb = self
+            .capture
+            .memory()
+            .read_trb(place)
+            .ok()
+            .filter(|_| seen)?;
+        (trb_type(&trb) == 6).then(|| trbs::line(Kind::Any, &trb).unwrap_or_default())
+    }
+
+    fn counts(&self) -> String {
+        let trbs = count(self.reading.trbs(), "TRB");
+        match self.ring.driver {
+            Some(_) => {
+                let pending = self.reading.of_stage(Stage::Pending);
+                format!("; {trbs}, {pending} pending")
+            }
+            None => format!("; {trbs}"),
+        }
+    }
+
+    /// Where the driver says it stands.
+    fn driver_words(&self) -> String {
+        let Some(driver) = self.ring.driver else {
+            return String::new();
+        };
+        let (place, cycle) = driver.place();
+        match driver.place() == self.reading.at {
+            true => "; the driver's own place is the same".to_owned(),
+            false => format!(
+                "; the driver's own place is {place:#x}, cycle state {}",
+                u8::from(cycle)
+            ),
+        }
+    }
+
+    fn end_object(&self) -> String {
+        let reading = self.reading;
+        let (word, number) = ending_brief(&reading.end);
+        let (end, then) = match reading.supposed {
+            Some(_) => ("UNKNOWN", Some(word)),
+            None => (word, None),
+        };
+        let mut object = Object::new()
+            .text("ring", &self.ring.name)
+            .text("end", end)
+            .address("place", reading.at.0)
+            .number("cycle", reading.at.1.into())
+            .number("trbs", reading.trbs() as u64);
+        if let Some((name, number)) = number {
+            object = object.number(name, number);
+        }
+        if let Some(driver) = self.ring.driver {
+            let (place, cycle) = driver.place();
+            object = object
+                .address("driver", place)
+                .number("driver_cycle", cycle.into())
+                .number("pending", reading.of_stage(Stage::Pending) as u64);
+        }
+        if reading.parts.iter().any(|part| part.stage == Stage::Astray) {
+            object = object.text("history", "NOT LOOKED AT");
+        }
+        if let Some(then) = then {
+            object = object
+                .optional("if_cycle", reading.supposed.map(u64::from))
+                .text("then", then);
+        }
+        let words = self.end_words() + &self.driver_words();
+        object.text("words", &words).line()
+    }
+}
+
+fn found_words(kind: Kind, stage: Stage, found: &Found) -> (Tone, String) {
     let links = match found.links {
         0 => String::new(),
         links => format!(", {} followed", count(links.into(), "link")),
@@ -178,96 +228,53 @@ fn found_words(kind: Kind, found: &Found) -> (Tone, String) {
     };
     let (address, number) = (found.address, trb_type(&found.trb));
     let cycle = u8::from(cycle_bit(&found.trb));
-    let words = format!("{address:#010x} {line} (type {number}, cycle {cycle}{links})");
+    let stage = stage_word(stage).map_or(String::new(), |word| format!(", {word}"));
+    let words = format!("{address:#010x} {line} (type {number}, cycle {cycle}{links}{stage})");
     (tone, words)
 }
 
-fn found_object(ring: &Ring, found: &Found) -> String {
-    let object = Object::new()
-        .text("ring", &ring.name)
-        .address("address", found.address)
-        .number("type", trb_type(&found.trb).into())
-        .number("cycle", cycle_bit(&found.trb).into())
-        .number("links", found.links.into())
-        .text("bytes", &bytes(&found.trb));
-    match trbs::line(ring.kind, &found.trb) {
-        Ok(line) => object.text("words", &line),
-        Err(refusal) => object
-            .number("refusal", refusal.number().into())
-            .text("words", &refused(refusal)),
-    }
-    .line()
-}
-
-impl End {
-    fn tone(&self) -> Tone {
-        self.answer.as_ref().map_or(Tone::GaveUp, Answer::tone)
+fn stage_word(stage: Stage) -> Option<&'static str> {
+    match stage {
+        Stage::Done => Some("done"),
+        Stage::Pending => Some("pending"),
+        Stage::Astray | Stage::Unknown => None,
     }
 }
 
-/// What ended a ring and why.
-fn end_words(ring: &Ring, end: &End, capture: &Capture) -> String {
-    let (place, cycle) = (end.place, u8::from(end.cycle));
-    let words = match &end.answer {
-        Some(answer) => answer.to_string(),
-        None => format!(
-            "GOES ROUND: the reader is back at {place:#x} with cycle state {cycle} and would never end (this is not \"nothing new\")"
+fn ending_words(reading: &Reading, most: usize) -> String {
+    let (place, cycle) = (reading.at.0, u8::from(reading.at.1));
+    let words = match &reading.end {
+        Ending::Answer(answer) => return answer.to_string(),
+        Ending::GoesRound => format!(
+            "GOES ROUND: the reader is back at {place:#x} with cycle state {cycle} and would never end"
         ),
+        Ending::Missing(at) => format!("UNKNOWN: what stands at {at:#x} is not in the image"),
+        Ending::NoSlot(dequeue) => format!(
+            "UNKNOWN: the driver's dequeue place, {dequeue:#x}, is no slot of this table, so nobody knows which events wait; they were written up to {place:#x}"
+        ),
+        Ending::NoDriver => format!(
+            "UNKNOWN: nobody said where the driver stands (--dequeue ADDRESS,CYCLE), so nobody knows which events wait; they were written up to {place:#x}"
+        ),
+        Ending::Blank => format!("UNKNOWN: at {place:#x} stands a TRB of zeros, which no driver writes"),
+        Ending::Unmet(enqueue) => format!(
+            "NOT LOOKED AT: the TRB at {place:#x} is stale (cycle state {cycle}), and what the driver wrote from there up to {enqueue:#x} was not come to"
+        ),
+        Ending::Cut => format!("NOT LOOKED AT: the ring goes on at {place:#x}, but {most} TRBs are listed at most (--most N)"),
+        Ending::Reached => format!("at {place:#x}"),
     };
-    if end.tone() == Tone::Nothing {
-        // Of a stale TRB there is nothing more to say, unless it was never seen.
-        let unseen = place < capture.known_from;
-        return words + if unseen { UNSEEN } else { "" };
-    }
-    match (ring.start, capture.memory().read_trb(place)) {
-        (Start::Linked(..), Ok(trb)) if trb_type(&trb) == 6 => {
-            let link = trbs::line(Kind::Any, &trb).unwrap_or_default();
-            format!("{words}; at {place:#x} stands {link}")
+    words + " (this is not \"nothing new\")"
+}
+
+/// The ending in a word, and its one number by name.
+fn ending_brief(end: &Ending) -> (&'static str, Option<(&'static str, u64)>) {
+    match end {
+        // The slot of "none" is the place.
+        Ending::Answer(answer) => {
+            let (word, number) = answer.brief();
+            (word, number.filter(|(name, _)| *name != "slot"))
         }
-        _ => words,
+        Ending::GoesRound => ("GOES ROUND", None),
+        Ending::Unmet(_) | Ending::Cut => ("NOT LOOKED AT", None),
+        _ => ("UNKNOWN", None),
     }
-}
-
-const UNSEEN: &str = "; BUT that is before the image, where memory counts as zero and nobody knows it (this is not \"nothing new\")";
-
-/// Where the driver says it stands. A reader begins with a ring's first pass, so one that has gone round ends elsewhere.
-fn driver_words(ring: &Ring, end: &End) -> String {
-    let Some((place, cycle)) = ring.driver else {
-        return String::new();
-    };
-    if cycle != end.cycle {
-        return format!(
-            "; BUT the driver is at {place:#x} with cycle state {}: what it wrote or took since the first pass is not shown (this is not \"nothing new\")",
-            u8::from(cycle)
-        );
-    }
-    if place == end.place {
-        "; the driver's own place is the same".to_owned()
-    } else {
-        format!("; the driver's own place is {place:#x}")
-    }
-}
-
-fn end_object(ring: &Ring, end: &End, capture: &Capture) -> String {
-    let (word, number) = match &end.answer {
-        Some(answer) => answer.brief(),
-        None => ("GOES ROUND", None),
-    };
-    let mut object = Object::new()
-        .text("ring", &ring.name)
-        .text("end", word)
-        .address("place", end.place)
-        .number("cycle", end.cycle.into())
-        .number("trbs", end.trbs as u64);
-    // The slot of "none" is the place.
-    if let Some((name, number)) = number.filter(|(name, _)| *name != "slot") {
-        object = object.number(name, number);
-    }
-    if let Some((place, cycle)) = ring.driver {
-        object = object
-            .address("driver", place)
-            .number("driver_cycle", cycle.into());
-    }
-    let words = end_words(ring, end, capture) + &driver_words(ring, end);
-    object.text("words", &words).line()
 }

@@ -1,5 +1,6 @@
 //! An answer in words: first what it is, then its numbers. The sentences of refusals are the core's own.
 
+use crate::reports::Foreign;
 use crate::trbs::{code_name, type_name, type_words};
 use crate::world::{Accepted, Answer, Chase};
 use lomvigast::event_ring::RingState;
@@ -21,6 +22,8 @@ pub enum Tone {
     Nothing,
     Refused,
     GaveUp,
+    /// Nobody looked, or nobody knows.
+    Unknown,
 }
 
 impl Answer {
@@ -33,10 +36,28 @@ impl Answer {
                 linked_ring::Answer::TooManyLinks => Tone::GaveUp,
                 linked_ring::Answer::Refused(_) => Tone::Refused,
             },
+            _ if self.warning().is_some() => Tone::Unknown,
             Self::Accepted(_) | Self::Taken(..) => Tone::Found,
             Self::None(_) => Tone::Nothing,
             _ => Tone::Plain,
         }
+    }
+
+    /// What is to be feared beside the answer.
+    pub fn warning(&self) -> Option<String> {
+        let (report, who) = match self {
+            Self::Accepted(accepted) => {
+                (accepted.report, foreign_words(accepted.foreign.as_ref()?))
+            }
+            Self::NoneInDoubt(_, report) => (
+                *report,
+                "this reader had not stood since its last report".to_owned(),
+            ),
+            _ => return None,
+        };
+        Some(format!(
+            "WARNING: {report:#x} was reported, where {who}: events that were not taken may be written over"
+        ))
     }
 
     /// The answer in a word, and its one number by name.
@@ -61,7 +82,7 @@ impl Answer {
             Self::Configured(state) => ("configured", "entry", state.index.into()),
             Self::Accepted(accepted) => ("accepted", "cycle", accepted.cycle.into()),
             Self::Taken(_, trb) => ("taken", "type", trb_type(trb).into()),
-            Self::None(slot) => ("none", "slot", *slot),
+            Self::None(slot) | Self::NoneInDoubt(slot, _) => ("none", "slot", *slot),
             Self::NotConfigured => return ("not configured", None),
             _ => return ("done", None),
         };
@@ -113,7 +134,27 @@ impl fmt::Display for Answer {
             Self::Accepted(accepted) => accepted_words(accepted),
             Self::Taken(slot, trb) => format!("taken from {slot:#x}: {}", taken_words(trb)),
             Self::None(slot) => format!("none: the slot at {slot:#x} is stale"),
-        })
+            Self::NoneInDoubt(slot, _) => {
+                format!("none, which says nothing here: the slot at {slot:#x} is stale")
+            }
+        })?;
+        match self.warning() {
+            Some(warning) => write!(f, "; {warning}"),
+            None => Ok(()),
+        }
+    }
+}
+
+fn foreign_words(foreign: &Foreign) -> String {
+    match foreign {
+        Foreign::NoReader => "no reader of this table has stood".to_owned(),
+        Foreign::Readers(names) => match &names[..] {
+            [name] => format!("reader {name} has not stood since its last report"),
+            _ => {
+                let names = names.join(", ");
+                format!("readers {names} have not stood since their last reports")
+            }
+        },
     }
 }
 

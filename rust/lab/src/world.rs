@@ -1,6 +1,7 @@
 //! Guest memory, and the rings and readers on it by name. A command done gives an answer.
 
 use crate::lines::Fault;
+use crate::reports::{Foreign, Reports};
 use crate::script::{
     Command, Event, LinkedCall, MemoryCall, ReaderCall, RingCall, Source, TrbCall, ValueCall,
 };
@@ -51,6 +52,8 @@ pub enum Answer {
     Taken(u64, RawTrbBuffer),
     /// No event; the reader's slot, which is stale.
     None(u64),
+    /// The same after a report, which stands second, of a place where the reader never stood.
+    NoneInDoubt(u64, u64),
 }
 
 /// What a chase came to, and where the ring stands after it.
@@ -63,11 +66,14 @@ pub struct Chase {
 }
 
 /// Where an event was put, with which cycle bit, and where the ring stands after it.
-#[derive(Debug, Clone, Copy, PartialEq)]
+#[derive(Debug, Clone, PartialEq)]
 pub struct Accepted {
     pub slot: u64,
     pub cycle: bool,
     pub next: RingState,
+    pub report: u64,
+    /// Whose place the report was not.
+    pub foreign: Option<Foreign>,
 }
 
 /// What a command stops with: a refusal of the core is an answer, a fault of the script is not.
@@ -96,6 +102,7 @@ pub struct World {
     linked: BTreeMap<String, LinkedRing>,
     rings: BTreeMap<String, EventRing>,
     readers: BTreeMap<String, EventReader>,
+    reports: Reports,
 }
 
 impl World {
@@ -242,7 +249,7 @@ impl World {
             self.rings.insert(name.to_owned(), ring);
         }
         let ring = called(&mut self.rings, name, "ring", "new")?;
-        Ok(match *call {
+        let answer = match *call {
             RingCall::New => Answer::NotConfigured,
             RingCall::Reset => {
                 ring.reset();
@@ -256,14 +263,51 @@ impl World {
                 let RingState { place, cycle, .. } = ring.state();
                 let mut memory = GuestMemoryMut::new(&mut self.memory);
                 ring.enqueue(&mut memory, &of_fields(event)?, report)?;
-                Answer::Accepted(Accepted {
+                return Ok(Answer::Accepted(Accepted {
                     slot: place,
                     cycle,
                     next: ring.state(),
-                })
+                    report,
+                    foreign: self.reports.reported(name, report),
+                }));
             }
-            RingCall::State | RingCall::FromState(_) => Answer::State(ring.state()),
-        })
+            RingCall::State => return Ok(Answer::State(ring.state())),
+            RingCall::FromState(_) => Answer::State(ring.state()),
+        };
+        self.ring_begins(name, &answer);
+        Ok(answer)
+    }
+
+    /// A ring was made, configured or reset: what was known of reports to it is over.
+    fn ring_begins(&mut self, name: &str, answer: &Answer) {
+        self.reports.forget_ring(name);
+        let Some(ring) = self.rings.get(name).map(EventRing::state) else {
+            return;
+        };
+        if ring.ready {
+            let first = matches!(answer, Answer::Configured(_)).then_some(ring.place);
+            self.reports.ring(name, first);
+        }
+        for (reader, state) in &self.readers {
+            let state = state.state();
+            if same_table(&ring, &state) {
+                self.reports.reader(name, reader, state.place, false);
+            }
+        }
+    }
+
+    /// The same for a reader.
+    fn reader_begins(&mut self, name: &str, answer: &Answer) {
+        let goes_on = matches!(answer, Answer::State(_));
+        self.reports.forget_reader(name);
+        let Some(reader) = self.reader(name) else {
+            return;
+        };
+        for (ring, state) in &self.rings {
+            if same_table(&state.state(), &reader) {
+                self.reports.reader(ring, name, reader.place, goes_on);
+            }
+        }
     }
 
     fn on_reader(&mut self, name: &str, call: &ReaderCall) -> Result<Answer, Stop> {
@@ -277,7 +321,7 @@ impl World {
             self.readers.insert(name.to_owned(), reader);
         }
         let reader = called(&mut self.readers, name, "reader", "new")?;
-        Ok(match *call {
+        let answer = match *call {
             ReaderCall::New => Answer::NotConfigured,
             ReaderCall::Reset => {
                 reader.reset();
@@ -289,12 +333,26 @@ impl World {
             }
             ReaderCall::Take => {
                 let slot = reader.state().place;
-                let taken = reader.take(memory)?;
-                taken.map_or(Answer::None(slot), |trb| Answer::Taken(slot, trb))
+                let Some(trb) = reader.take(memory)? else {
+                    let foreign = self.reports.foreign_to(name);
+                    let doubt = |report| Answer::NoneInDoubt(slot, report);
+                    return Ok(foreign.map_or(Answer::None(slot), doubt));
+                };
+                self.reports.moved(name, reader.state().place);
+                return Ok(Answer::Taken(slot, trb));
             }
-            ReaderCall::State | ReaderCall::FromState(_) => Answer::State(reader.state()),
-        })
+            ReaderCall::State => return Ok(Answer::State(reader.state())),
+            ReaderCall::FromState(_) => Answer::State(reader.state()),
+        };
+        self.reader_begins(name, &answer);
+        Ok(answer)
     }
+}
+
+/// Whether ring and reader are both configured, on the same table.
+pub fn same_table(ring: &RingState, reader: &RingState) -> bool {
+    let table = |state: &RingState| (state.table, state.entries);
+    ring.ready && reader.ready && table(ring) == table(reader)
 }
 
 /// Memory of zeros, if the machine has so much.

@@ -82,7 +82,8 @@ fn a_late_reader() {
             ("refused 7", ""),
             ("none, slot 0x90", ""),
             ("accepted, cycle 1", "now at 0x40 with cycle 0"),
-            ("none, slot 0x50", ""),
+            ("none, slot 0x50", "none: the slot"),
+            ("none, slot 0x50", "none, which says nothing here"),
         ],
     );
 }

@@ -1,6 +1,6 @@
 //! Random scripts, bytes and captures: each gives an answer or a fault, and never a panic.
 
-use lab::capture::{Capture, Ring, Start};
+use lab::capture::{Capture, Driver, Ring, Start};
 use lab::output::{Output, Stop};
 use lab::picture::picture;
 use lab::run::{each, run};
@@ -270,21 +270,26 @@ fn random_memory_as_captures() {
         }
         memory.truncate(memory.len() - memory.len().min(random.below(20) as usize));
         let starts = [
-            Start::Linked(random.below(1 << 11), random.one_in(2)),
-            Start::Linked(random.next(), true),
+            Start::Linked(random.below(1 << 11), Some(random.one_in(2))),
+            Start::Linked(random.next(), None),
             Start::Table(64 * random.below(16), random.below(4) as u16),
             Start::Table(random.next(), random.next() as u16),
         ];
         let kinds = [Kind::Command, Kind::Transfer, Kind::Event, Kind::Any];
-        let ring = |start| Ring {
+        let mut ring = |start| Ring {
             kind: random.pick(&kinds),
             name: "\"\n".to_owned(),
             start,
-            driver: Some((0, true)),
+            driver: random.one_in(2).then(|| Driver {
+                dequeue: random.pick(&[0, 0x10, 0x40, 0x100, u64::MAX]),
+                enqueue: random.pick(&[None, Some(0x40), Some(0x13), Some(0xffff_ffff_ffff_fff0)]),
+                cycle: random.one_in(2),
+            }),
         };
-        let capture = Capture::new(memory, starts.map(ring).into());
+        let capture = Capture::new(memory, starts.map(&mut ring).into());
         let mut out = Vec::new();
-        fine(show(&capture, false, &mut Output::plain(&mut out)));
-        fine(show(&capture, true, &mut Output::plain(&mut out)));
+        for (json, most) in [(false, 1000), (true, 1000), (true, 3), (false, 0)] {
+            fine(show(&capture, json, most, &mut Output::plain(&mut out)));
+        }
     }
 }

@@ -1,79 +1,386 @@
-//! What is not known is never told as nothing.
+//! What is not known, or was not looked at, is never told as nothing. The smallest input of each slip is here.
 
-use lab::capture::{Capture, Ring, Start};
+use lab::capture::{Capture, Driver, Ring, Start};
 use lab::lesson::tell;
 use lab::output::Output;
 use lab::run;
-use lab::show::show;
+use lab::show::{show, MOST};
 use lab::trbs::Kind;
+use lab::walk::{read, Ending, Reading, Stage};
+use lab::words::Tone;
 use std::fs;
 use std::path::PathBuf;
 
-/// The last line of what is shown of a capture.
-fn last_line(capture: &Capture) -> String {
-    let mut shown = Vec::new();
-    show(capture, false, &mut Output::plain(&mut shown)).expect("a Vec takes all");
-    let shown = String::from_utf8(shown).expect("text");
-    shown.lines().last().expect("an end").to_owned()
+const NORMAL: u8 = 1;
+const LINK: u8 = 6;
+const PORT: u8 = 34;
+
+fn trb(trb_type: u8, cycle: bool) -> [u8; 16] {
+    let mut trb = [0; 16];
+    (trb[12], trb[13]) = (cycle.into(), trb_type << 2);
+    trb
 }
 
-fn ring(kind: Kind, start: Start, driver: Option<(u64, bool)>) -> Ring {
-    Ring {
-        kind,
-        name: "events".to_owned(),
-        start,
-        driver,
-    }
+fn link(target: u8, toggle: bool, cycle: bool) -> [u8; 16] {
+    let mut link = trb(LINK, cycle);
+    link[0] = target;
+    link[12] |= u8::from(toggle) << 1;
+    link
 }
 
-/// One segment of two slots at 0x40, whose events have this cycle bit.
-fn lapped(cycle: u8) -> Vec<u8> {
-    let mut memory = vec![0; 0x60];
-    (memory[0], memory[8]) = (0x40, 2);
-    for slot in [0x40, 0x50] {
-        memory[slot + 12] = cycle;
-        memory[slot + 13] = 34 << 2;
+/// Memory of zeros with these TRBs.
+fn memory(length: usize, trbs: &[(usize, [u8; 16])]) -> Vec<u8> {
+    let mut memory = vec![0; length];
+    for (address, trb) in trbs {
+        memory[*address..address + 16].copy_from_slice(trb);
     }
     memory
 }
 
-#[test]
-fn a_ring_that_has_gone_round() {
-    let capture = |cycle| {
-        let driver = Some((0x40, cycle));
-        let rings = vec![ring(Kind::Event, Start::Table(0, 1), driver)];
-        Capture::new(lapped(0), rings)
-    };
-    // The second pass has cycle bit 0: both events wait for the driver, and a reader of the first pass sees none.
-    let told = last_line(&capture(false));
-    assert!(
-        told.contains("BUT the driver is at 0x40 with cycle state 0"),
-        "{told}"
+fn linked(first: u64, driver: Driver) -> Ring {
+    Ring {
+        kind: Kind::Transfer,
+        name: "t".to_owned(),
+        start: Start::Linked(first, Some(true)),
+        driver: Some(driver),
+    }
+}
+
+fn writes(dequeue: u64, enqueue: u64, cycle: bool) -> Driver {
+    Driver {
+        dequeue,
+        enqueue: Some(enqueue),
+        cycle,
+    }
+}
+
+/// An event ring with its table at 0, one entry.
+fn events(driver: Option<(u64, bool)>) -> Ring {
+    Ring {
+        kind: Kind::Event,
+        name: "e".to_owned(),
+        start: Start::Table(0, 1),
+        driver: driver.map(|(dequeue, cycle)| Driver {
+            dequeue,
+            enqueue: None,
+            cycle,
+        }),
+    }
+}
+
+fn shown(capture: &Capture, json: bool) -> Vec<String> {
+    let mut shown = Vec::new();
+    let out = &mut Output::plain(&mut shown);
+    show(capture, json, MOST, out).expect("a Vec takes all");
+    let shown = String::from_utf8(shown).expect("text");
+    shown.lines().map(str::to_owned).collect()
+}
+
+/// The last line of what is shown, in words and as JSON.
+fn last_lines(capture: &Capture) -> (String, String) {
+    let last = |json| shown(capture, json).pop().expect("an end");
+    (last(false), last(true))
+}
+
+fn reading(capture: &Capture) -> Reading {
+    read(capture, &capture.rings[0], MOST).remove(0)
+}
+
+/// Each listed TRB's address and stage.
+fn listed(reading: &Reading) -> Vec<(u64, Stage)> {
+    let parts = reading.parts.iter();
+    parts
+        .flat_map(|part| part.found.iter().map(|found| (found.address, part.stage)))
+        .collect()
+}
+
+use Stage::{Done, Pending, Unknown};
+
+/// One segment of four slots from 0x40 on, on its second pass: 0x40 and 0x50 are of this pass (cycle bit 0), 0x60 and 0x70
+/// of the pass before.
+fn second_pass() -> Vec<u8> {
+    let mut memory = memory(
+        0x80,
+        &[
+            (0x40, trb(PORT, false)),
+            (0x50, trb(PORT, false)),
+            (0x60, trb(PORT, true)),
+            (0x70, trb(PORT, true)),
+        ],
     );
-    assert!(told.ends_with("(this is not \"nothing new\")"), "{told}");
-    let told = last_line(&capture(true));
-    assert!(
-        told.ends_with("the driver's own place is the same"),
-        "{told}"
+    (memory[0], memory[8]) = (0x40, 4);
+    memory
+}
+
+#[test]
+fn an_event_ring_that_has_gone_round_shows_its_events() {
+    let at = |place, cycle| {
+        let capture = Capture::new(second_pass(), vec![events(Some((place, cycle)))]);
+        let reading = reading(&capture);
+        assert_eq!(reading.end.tone(), Tone::Nothing);
+        assert_eq!(reading.at, (0x60, false));
+        listed(&reading)
+    };
+    // A driver on the second pass has one event to take, a late one on the first pass all four.
+    let waits_for_one = [(0x60, Done), (0x70, Done), (0x40, Done), (0x50, Pending)];
+    assert_eq!(at(0x50, false), waits_for_one);
+    assert_eq!(
+        at(0x60, true),
+        [0x60, 0x70, 0x40, 0x50].map(|slot| (slot, Pending))
+    );
+    assert_eq!(
+        at(0x60, false),
+        [0x60, 0x70, 0x40, 0x50].map(|slot| (slot, Done))
     );
 }
 
 #[test]
-fn memory_before_an_image() {
-    let rings = || vec![ring(Kind::Any, Start::Linked(0x10, true), None)];
-    let file = file("before", &[0; 64]);
-    let before = Capture::of_image(&file, 0x100, rings()).expect("an image");
-    assert!(last_line(&before).contains("BUT that is before the image"));
-    let seen = Capture::of_image(&file, 0, rings()).expect("an image");
-    assert!(last_line(&seen).ends_with("cycle state 1); 0 TRBs"));
+fn a_driver_that_stands_on_no_slot() {
+    let capture = Capture::new(second_pass(), vec![events(Some((0x48, true)))]);
+    let told = reading(&capture);
+    assert_eq!(told.end, Ending::NoSlot(0x48));
+    assert_eq!(
+        listed(&told),
+        [0x60, 0x70, 0x40, 0x50].map(|slot| (slot, Unknown))
+    );
+    let (words, json) = last_lines(&capture);
+    assert!(
+        words.starts_with("  UNKNOWN: the driver's dequeue place, 0x48, is no slot"),
+        "{words}"
+    );
+    assert!(json.contains(r#""end":"UNKNOWN""#), "{json}");
+}
+
+/// Three TRBs and a Link back: 0x0 is of the second pass, 0x10 and 0x20 of the first.
+fn transfers_gone_round() -> Vec<u8> {
+    memory(
+        0x40,
+        &[
+            (0x00, trb(NORMAL, false)),
+            (0x10, trb(NORMAL, true)),
+            (0x20, trb(NORMAL, true)),
+            (0x30, link(0, true, true)),
+        ],
+    )
+}
+
+#[test]
+fn a_transfer_ring_that_has_gone_round_is_read_from_the_dequeue_place() {
+    let at = |dequeue| {
+        let ring = linked(0, writes(dequeue, 0x10, false));
+        let capture = Capture::new(transfers_gone_round(), vec![ring]);
+        let reading = reading(&capture);
+        assert_eq!(
+            (reading.end.tone(), reading.at),
+            (Tone::Nothing, (0x10, false))
+        );
+        listed(&reading)
+    };
+    assert_eq!(at(0x20), [(0x10, Done), (0x20, Pending), (0x00, Pending)]);
+    assert_eq!(at(0x00), [(0x10, Done), (0x20, Done), (0x00, Pending)]);
+    assert_eq!(at(0x10), [(0x10, Done), (0x20, Done), (0x00, Done)]);
+}
+
+#[test]
+fn what_the_driver_wrote_and_the_reader_never_came_to() {
+    // The driver has written up to 0x20, but the TRB at 0x10 is stale.
+    let memory = memory(0x30, &[(0, trb(NORMAL, true))]);
+    let capture = Capture::new(memory, vec![linked(0, writes(0, 0x20, true))]);
+    assert_eq!(reading(&capture).end, Ending::Unmet(0x20));
+    let (words, json) = last_lines(&capture);
+    assert!(
+        words.starts_with("  NOT LOOKED AT: the TRB at 0x10 is stale"),
+        "{words}"
+    );
+    assert!(words.contains("up to 0x20"), "{words}");
+    assert!(json.contains(r#""end":"NOT LOOKED AT""#), "{json}");
+}
+
+#[test]
+fn a_dequeue_place_where_nobody_wrote() {
+    let capture = Capture::new(vec![0; 0x30], vec![linked(0, writes(0x10, 0x20, true))]);
+    let (words, json) = last_lines(&capture);
+    assert!(
+        words.starts_with("  UNKNOWN: at 0x10 stands a TRB of zeros"),
+        "{words}"
+    );
+    assert!(json.contains(r#""end":"UNKNOWN""#), "{json}");
+}
+
+#[test]
+fn a_first_slot_that_does_not_lead_to_the_driver() {
+    let memory = memory(0x80, &[(0, trb(NORMAL, true)), (0x40, trb(NORMAL, true))]);
+    let capture = Capture::new(memory, vec![linked(0, writes(0x40, 0x50, true))]);
+    let told = reading(&capture);
+    assert_eq!(listed(&told), [(0, Stage::Astray), (0x40, Pending)]);
+    let heading = " history NOT LOOKED AT: from 0x00000000 with cycle state 1 the reader does not come to the driver's dequeue place";
+    let shown = shown(&capture, false);
+    assert!(shown.iter().any(|line| line == heading), "{shown:?}");
+    let (_, json) = last_lines(&capture);
+    assert!(json.contains(r#""history":"NOT LOOKED AT""#), "{json}");
+}
+
+#[test]
+fn a_link_into_the_middle_lists_each_trb_once() {
+    let memory = memory(
+        0x30,
+        &[
+            (0x00, trb(NORMAL, true)),
+            (0x10, trb(NORMAL, true)),
+            (0x20, link(0x10, false, true)),
+        ],
+    );
+    let capture = Capture::new(memory, vec![linked(0, writes(0, 0x20, true))]);
+    let told = reading(&capture);
+    assert_eq!(told.end, Ending::GoesRound);
+    assert_eq!(listed(&told), [(0x00, Pending), (0x10, Pending)]);
+}
+
+/// One Link that toggles, and from there on zeros, which are fresh for cycle state 0.
+#[test]
+fn a_ring_of_a_million_lines_is_cut() {
+    let length = 16 << 20;
+    let memory = memory(length, &[(0, link(0x10, true, true))]);
+    let capture = Capture::new(memory, vec![linked(0, writes(0, 0, true))]);
+    let told = reading(&capture);
+    assert_eq!(
+        (told.end, told.at),
+        (Ending::Cut, (16 * (1 + MOST as u64), false))
+    );
+    let lines = shown(&capture, true);
+    assert_eq!(lines.len(), MOST + 1);
+    assert!(
+        lines[MOST].contains(r#""end":"NOT LOOKED AT""#),
+        "{}",
+        lines[MOST]
+    );
+    let (words, _) = last_lines(&capture);
+    assert!(
+        words.starts_with("  NOT LOOKED AT: the ring goes on at 0x40010"),
+        "{words}"
+    );
+}
+
+/// The number is for all rings together, and a ring that is whole within it is not cut.
+#[test]
+fn rings_share_the_lines() {
+    let ring = || linked(0, writes(0x20, 0x20, true));
+    let memory = memory(0x30, &[(0, trb(NORMAL, true)), (0x10, trb(NORMAL, true))]);
+    let capture = Capture::new(memory, vec![ring(), ring()]);
+    let shown = |most| {
+        let mut shown = Vec::new();
+        let out = &mut Output::plain(&mut shown);
+        show(&capture, true, most, out).expect("a Vec takes all");
+        let shown = String::from_utf8(shown).expect("text");
+        (
+            shown.lines().count(),
+            shown.matches("NOT LOOKED AT").count(),
+        )
+    };
+    assert_eq!(shown(4), (4 + 2, 0));
+    assert_eq!(shown(3), (3 + 2, 1));
+    assert_eq!(shown(0), (2, 2));
+}
+
+#[test]
+fn what_is_not_known_has_a_colour_of_its_own() {
+    let memory = memory(0x30, &[(0, trb(NORMAL, true))]);
+    let capture = Capture::new(memory, vec![linked(0, writes(0, 0x20, true))]);
+    let mut shown = Vec::new();
+    show(&capture, false, MOST, &mut Output::new(&mut shown, true)).expect("a Vec takes all");
+    let shown = String::from_utf8(shown).expect("text");
+    assert!(shown.contains("\x1b[1;35m  NOT LOOKED AT"), "{shown}");
+}
+
+/// A raw image that begins at an address.
+fn image(name: &str, bytes: &[u8], base: u64, ring: Ring) -> Capture {
+    Capture::of_image(&file(name, bytes), base, vec![ring]).expect("an image")
+}
+
+fn unsaid(first: u64, cycle: Option<bool>) -> Ring {
+    Ring {
+        kind: Kind::Any,
+        start: Start::Linked(first, cycle),
+        driver: None,
+        ..events(None)
+    }
+}
+
+#[test]
+fn memory_that_an_image_does_not_hold() {
+    // A Link to 0x0, with toggle, in an image that begins at 0x10.
+    let out = link(0, true, true);
+    let told = reading(&image("out", &out, 0x10, unsaid(0x10, Some(true))));
+    assert_eq!((told.trbs(), told.end), (0, Ending::Missing(0)));
+    // The TRB before the image, the one behind it, and one that begins before it.
+    for place in [0x30, 0x50, 0x38] {
+        let told = reading(&image("before", &[0; 16], 0x40, unsaid(place, Some(false))));
+        assert_eq!((told.trbs(), told.end), (0, Ending::Missing(place)));
+    }
+    let told = reading(&image("inside", &[0; 16], 0x40, unsaid(0x40, Some(true))));
+    assert_eq!(told.end.tone(), Tone::Nothing);
+}
+
+#[test]
+fn a_table_or_a_segment_that_an_image_does_not_hold() {
+    let told = reading(&image("table", &[0; 64], 0x40, events(None)));
+    assert_eq!((told.trbs(), told.end), (0, Ending::Missing(0)));
+    // A table in the image; its segment of two slots ends behind it, or is held.
+    let mut bytes = [0; 0x60];
+    (bytes[0], bytes[8]) = (0x40, 2);
+    let end = |bytes: &[u8]| reading(&image("segment", bytes, 0, events(Some((0x40, true))))).end;
+    assert_eq!(end(&bytes[..0x5f]), Ending::Missing(0x40));
+    assert_eq!(end(&bytes).tone(), Tone::Nothing);
+    // No memory whatever would do.
+    bytes[8] = 0;
+    assert_eq!(end(&bytes[..0x5f]).tone(), Tone::Refused);
+}
+
+#[test]
+fn a_cycle_state_that_nobody_said_is_read_as_both() {
+    let fresh = trb(NORMAL, true);
+    let capture = image("both", &fresh, 0, unsaid(0, None));
+    let readings = read(&capture, &capture.rings[0], MOST);
+    let told: Vec<_> = readings
+        .iter()
+        .map(|reading| (reading.supposed, listed(reading)))
+        .collect();
+    assert_eq!(
+        told,
+        [(Some(true), vec![(0, Unknown)]), (Some(false), vec![])]
+    );
+    let (words, json) = last_lines(&capture);
+    assert!(
+        words.starts_with("  UNKNOWN, as nobody said the cycle state; if it is 0: nothing new"),
+        "{words}"
+    );
+    assert!(json.contains(r#""end":"UNKNOWN""#), "{json}");
+    assert!(
+        json.contains(r#""if_cycle":0,"then":"nothing new""#),
+        "{json}"
+    );
+}
+
+#[test]
+fn events_of_an_image_whose_driver_nobody_said() {
+    let capture = image("driver", &second_pass(), 0, events(None));
+    let told = reading(&capture);
+    assert_eq!((&told.end, told.at), (&Ending::NoDriver, (0x60, false)));
+    assert_eq!(
+        listed(&told),
+        [0x60, 0x70, 0x40, 0x50].map(|slot| (slot, Unknown))
+    );
 }
 
 #[test]
 fn a_refused_table_meets_no_link() {
     let mut memory = vec![0; 0x40];
     memory[12..14].copy_from_slice(&[1, 6 << 2]);
-    let rings = vec![ring(Kind::Event, Start::Table(0x20, 1), None)];
-    let told = last_line(&Capture::new(memory, rings));
+    let ring = Ring {
+        start: Start::Table(0x20, 1),
+        ..events(None)
+    };
+    let (told, _) = last_lines(&Capture::new(memory, vec![ring]));
     assert!(
         told.contains("refused 2") && !told.contains("LINK"),
         "{told}"

@@ -3,7 +3,10 @@
 use super::Scene;
 
 pub fn scenes() -> Vec<Scene> {
-    [filled(), drained()].into_iter().flatten().collect()
+    [filled(), drained(), vec![misled()]]
+        .into_iter()
+        .flatten()
+        .collect()
 }
 
 fn filled() -> Vec<Scene> {
@@ -50,8 +53,8 @@ fn drained() -> Vec<Scene> {
             "The driver takes all that is left.",
             "reader driver take\nreader driver take\nreader driver take",
             "Ports 1, 2 and 3 were taken once each and in order. The slot at 0x90 is stale (cycle bit 0 where 1 is expected), so every accepted event was taken: \
-             here \"none\" does mean that nothing is there.",
-            "every accepted event was taken",
+             here \"none\" does mean that nothing is there. Port 4 was never accepted: it still waits outside the ring, with the caller.",
+            "every accepted event was taken; the refused one still waits outside",
         ),
         Scene::new(
             "Reported",
@@ -69,4 +72,18 @@ fn drained() -> Vec<Scene> {
             "drained again; an old event is not taken twice",
         ),
     ]
+}
+
+fn misled() -> Scene {
+    Scene::new(
+        "A false report",
+        "Ports 6, 7 and 8 come, which is all that fits; nothing is taken. Then the guest reports 0x90, where its reader has not come to yet, \
+         and ports 9 and 10 come. The driver takes, twice.",
+        "ring events add 0x50 port=6\nring events add 0x50 port=7\nring events add 0x50 port=8\n\
+         ring events add 0x90 port=9\nring events add 0x90 port=10\nreader driver take\nreader driver take",
+        "Port 10 was written over port 6, which nobody had taken, with the other cycle bit; so the slot looks stale and the reader stops before it. \
+         Five events were accepted since the last take, and the answer is \"none\". The ring believes a report, as it cannot see the reader; the lab sees both, \
+         and warns. A report must be a place where the reader stands or stood.",
+        "says nothing: after a false report events are lost",
+    )
 }

@@ -62,6 +62,7 @@ fn step(frame: &Frame) -> String {
         Tone::Nothing => "nothing",
         Tone::Refused => "refused",
         Tone::GaveUp => "gave-up",
+        Tone::Unknown => "unknown",
     };
     format!(
         "<section>\n<h2>Line {}: <code>{}</code></h2>\n<p class=\"answer {tone}\">{}</p>\n{pictures}\n</section>\n",

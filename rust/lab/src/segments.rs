@@ -1,0 +1,51 @@
+//! The segments of an event ring, as its table lists them.
+
+use lomvigast::GuestMemory;
+
+/// The most entries that a table may have.
+const MOST_ENTRIES: u16 = 16;
+
+#[derive(Debug, Clone, Copy, PartialEq, Eq)]
+pub struct Segment {
+    pub base: u64,
+    pub size: u32,
+}
+
+impl Segment {
+    pub fn slots(self) -> impl Iterator<Item = u64> {
+        (0..u64::from(self.size)).map(move |n| self.base + 16 * n)
+    }
+
+    /// Which of its slots a place is, from 0 on.
+    pub fn slot(self, place: u64) -> Option<u32> {
+        let from_base = place.checked_sub(self.base)?;
+        let slot = u32::try_from(from_base / 16).ok()?;
+        (from_base % 16 == 0 && slot < self.size).then_some(slot)
+    }
+
+    /// What an entry of a table says, be it allowed or not.
+    pub fn said(memory: GuestMemory<'_>, entry: u64) -> Option<Self> {
+        let base = memory.read8(entry).ok()?;
+        let size = memory.read4(entry.checked_add(8)?).ok()?;
+        Some(Self { base, size })
+    }
+
+    /// Whether base and size are such as refusal 5 is not for; whether it is inside memory is another question.
+    pub fn well_formed(self) -> bool {
+        self.base % 64 == 0 && (1..=4096).contains(&self.size)
+    }
+
+    pub fn length(self) -> u64 {
+        16 * u64::from(self.size)
+    }
+}
+
+/// Each entry of a table, or `None` for one that refusal 1 or 5 is for.
+pub fn of_table(memory: GuestMemory<'_>, table: u64, entries: u16) -> Vec<Option<Segment>> {
+    let allowed =
+        |segment: &Segment| segment.well_formed() && memory.inside(segment.base, segment.length());
+    let entries = 0..u64::from(entries.min(MOST_ENTRIES));
+    entries
+        .map(|n| Segment::said(memory, table.checked_add(16 * n)?).filter(allowed))
+        .collect()
+}
