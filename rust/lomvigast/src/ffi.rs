@@ -8,7 +8,7 @@ use crate::types::{
     PortStatusChangeEventTrbData, RawTrbBuffer, State, TransferTrbVariant, Unrecognized,
 };
 use crate::Refusal;
-use std::mem::MaybeUninit;
+use core::mem::MaybeUninit;
 
 #[cfg(test)]
 mod exports;

@@ -2,7 +2,8 @@
 //!
 //! What is decided here is decided by archives in which each function is proved to meet its contract (crates/lomvigast_ffi, crates/trb_ffi);
 //! this crate gives its answers Rust's types. No input is outside a contract: a call answers, or refuses with a [`Refusal`]
-//! that has a number and a sentence, and a refusal changes no byte of guest memory and no ring.
+//! that has a number and a sentence, and a refusal changes no byte of guest memory and no ring. Neither `std` nor an allocator is
+//! needed.
 //!
 //! What the guest shares is lent for one call as [`GuestMemory`] or [`GuestMemoryMut`], and nobody may write to it during the
 //! call: a guest that runs on is lent as a copy (docs/USBVFIOD.md).
@@ -26,10 +27,16 @@
 //! assert_eq!(chase.answer, Answer::Refused(Refusal::Outside));
 //! ```
 
+#![no_std]
 #![deny(missing_docs)]
 #![deny(unsafe_op_in_unsafe_fn)]
 // Everything unsafe stands in `ffi`.
 #![deny(unsafe_code)]
+
+// For the unit tests alone: the crate is `core` and the archives.
+#[cfg(test)]
+#[macro_use]
+extern crate std;
 
 pub mod event_ring;
 #[allow(unsafe_code)]

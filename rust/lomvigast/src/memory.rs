@@ -1,7 +1,7 @@
 use crate::ffi;
 use crate::trb::RawTrbBuffer;
 use crate::Refusal;
-use std::fmt;
+use core::fmt;
 
 /// Guest memory lent to be read. Guest address 0 is byte 0.
 ///

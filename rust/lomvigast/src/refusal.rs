@@ -1,5 +1,5 @@
-use std::error::Error;
-use std::fmt;
+use core::error::Error;
+use core::fmt;
 
 /// Why a call was refused: one of the thirteen numbered refusals of document 01.
 ///
@@ -128,6 +128,7 @@ impl Error for Refusal {}
 #[cfg(test)]
 mod tests {
     use super::Refusal;
+    use std::string::ToString;
 
     #[test]
     fn a_refusal_keeps_its_number_and_type() {

@@ -2,9 +2,12 @@
 
 use crate::types::{LinkedState, State};
 use crate::Refusal;
+use std::borrow::ToOwned;
 use std::fs;
 use std::mem::{offset_of, size_of};
 use std::path::{Path, PathBuf};
+use std::string::{String, ToString};
+use std::vec::Vec;
 
 /// Exports that have no use here: `lomvigast_data` answers the same number.
 const UNUSED: [&str; 1] = ["lomvigast_data_refusal"];

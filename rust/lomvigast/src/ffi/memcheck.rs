@@ -3,6 +3,7 @@
 
 use std::io::ErrorKind;
 use std::process::Command;
+use std::string::String;
 
 #[test]
 fn every_call_is_clean() {

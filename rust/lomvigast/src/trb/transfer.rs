@@ -1,7 +1,7 @@
 use super::RawTrbBuffer;
 use crate::types::{DataStageTrb, NormalTrb, TransferTrbVariant};
 use crate::{ffi, GuestMemory, GuestMemoryMut, Refusal};
-use std::ops::Range;
+use core::ops::Range;
 
 impl TransferTrbVariant {
     /// The TRB that sixteen bytes say; never fails, see [`TransferTrbVariant::Unrecognized`].

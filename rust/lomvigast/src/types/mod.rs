@@ -28,8 +28,8 @@ pub use transfer::{
 };
 
 use crate::Refusal;
-use std::error::Error;
-use std::fmt;
+use core::error::Error;
+use core::fmt;
 
 /// The sixteen bytes of a TRB.
 pub type RawTrbBuffer = [u8; 16];

@@ -66,7 +66,7 @@ macro_rules! state {
         #[cfg(test)]
         impl State {
             /// Each word's name and place.
-            pub const WORDS: &[(&str, usize)] = &[$((stringify!($field), std::mem::offset_of!(State, $field)),)*];
+            pub const WORDS: &[(&str, usize)] = &[$((stringify!($field), core::mem::offset_of!(State, $field)),)*];
         }
     };
 }
