@@ -33,7 +33,7 @@ use crate::{ffi, GuestMemory, GuestMemoryMut, Refusal};
 /// # Ok::<(), Refusal>(())
 /// ```
 // Not `Copy`: a copy that moves on in its place would leave it behind.
-#[derive(Debug, Clone, PartialEq, Eq)]
+#[derive(Debug, Clone, PartialEq, Eq, Hash)]
 pub struct EventRing {
     state: State,
 }
@@ -109,7 +109,7 @@ impl From<RingState> for EventRing {
 
 /// The consumer's end of an event ring: what a driver does (xHCI 4.9.4). See the example at [`EventRing`].
 // Not `Copy`: a copy that moves on in its place would leave it behind.
-#[derive(Debug, Clone, PartialEq, Eq)]
+#[derive(Debug, Clone, PartialEq, Eq, Hash)]
 pub struct EventReader {
     state: State,
 }

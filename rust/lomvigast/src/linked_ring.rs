@@ -34,7 +34,7 @@ use crate::{ffi, GuestMemory};
 /// assert_eq!(ring.get_dequeue_pointer(), (16, true));
 /// ```
 // Not `Copy`: a copy that moves on in a ring's place would leave the ring behind.
-#[derive(Debug, Clone, PartialEq, Eq)]
+#[derive(Debug, Clone, PartialEq, Eq, Hash)]
 pub struct LinkedRing {
     state: LinkedState,
 }

@@ -3,7 +3,7 @@ use crate::Refusal;
 
 /// What a chase came to. "Gave up looking" is not "nothing there", and neither is a refusal: match all four.
 #[repr(u8)]
-#[derive(Debug, Clone, Copy, PartialEq, Eq)]
+#[derive(Debug, Clone, Copy, PartialEq, Eq, Hash)]
 #[must_use]
 pub enum Answer {
     /// The TRB at the ring's place, after any Links that were followed, is stale.
@@ -20,7 +20,7 @@ pub enum Answer {
 
 /// What was met on the way, where usbvfiod writes warnings. Beside a refusal there are none.
 #[repr(C)]
-#[derive(Debug, Clone, Copy, PartialEq, Eq)]
+#[derive(Debug, Clone, Copy, PartialEq, Eq, Hash)]
 pub struct Notes {
     /// How many links were followed, 0 to 256.
     pub links: u16,
@@ -32,7 +32,7 @@ pub struct Notes {
 
 /// An answer, and the notes beside it.
 #[repr(C)]
-#[derive(Debug, Clone, Copy, PartialEq, Eq)]
+#[derive(Debug, Clone, Copy, PartialEq, Eq, Hash)]
 #[must_use]
 pub struct Chase {
     /// What the chase came to.
@@ -43,7 +43,7 @@ pub struct Chase {
 
 /// All that a linked ring holds. The cycle state is 0 or 1.
 #[repr(C)]
-#[derive(Debug, Clone, PartialEq, Eq)]
+#[derive(Debug, Clone, PartialEq, Eq, Hash)]
 pub struct LinkedState {
     pub place: u64,
     pub cycle: u64,

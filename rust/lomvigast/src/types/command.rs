@@ -3,7 +3,7 @@ use crate::Refusal;
 
 /// A TRB of the command ring (xHCI 6.4.3).
 #[repr(u8)]
-#[derive(Debug, Clone, Copy, PartialEq, Eq)]
+#[derive(Debug, Clone, Copy, PartialEq, Eq, Hash)]
 pub enum CommandTrbVariant {
     /// No Op (type 23).
     NoOp = 23,
@@ -33,7 +33,7 @@ pub enum CommandTrbVariant {
 
 /// Of a Disable Slot command (xHCI 6.4.3.3).
 #[repr(C)]
-#[derive(Debug, Clone, Copy, PartialEq, Eq)]
+#[derive(Debug, Clone, Copy, PartialEq, Eq, Hash)]
 pub struct DisableSlotCommandTrbData {
     /// The device slot.
     pub slot_id: u8,
@@ -41,7 +41,7 @@ pub struct DisableSlotCommandTrbData {
 
 /// Of an Address Device command (xHCI 6.4.3.4).
 #[repr(C)]
-#[derive(Debug, Clone, Copy, PartialEq, Eq)]
+#[derive(Debug, Clone, Copy, PartialEq, Eq, Hash)]
 pub struct AddressDeviceCommandTrbData {
     /// The input context: a multiple of 16.
     pub input_context_pointer: u64,
@@ -53,7 +53,7 @@ pub struct AddressDeviceCommandTrbData {
 
 /// Of a Configure Endpoint command (xHCI 6.4.3.5).
 #[repr(C)]
-#[derive(Debug, Clone, Copy, PartialEq, Eq)]
+#[derive(Debug, Clone, Copy, PartialEq, Eq, Hash)]
 pub struct ConfigureEndpointCommandTrbData {
     /// The input context: a multiple of 16.
     pub input_context_pointer: u64,
@@ -65,7 +65,7 @@ pub struct ConfigureEndpointCommandTrbData {
 
 /// Of an Evaluate Context command (xHCI 6.4.3.6).
 #[repr(C)]
-#[derive(Debug, Clone, Copy, PartialEq, Eq)]
+#[derive(Debug, Clone, Copy, PartialEq, Eq, Hash)]
 pub struct EvaluateContextCommandTrbData {
     /// The input context: a multiple of 16.
     pub input_context_pointer: u64,
@@ -75,7 +75,7 @@ pub struct EvaluateContextCommandTrbData {
 
 /// Of a Reset Endpoint command (xHCI 6.4.3.7).
 #[repr(C)]
-#[derive(Debug, Clone, Copy, PartialEq, Eq)]
+#[derive(Debug, Clone, Copy, PartialEq, Eq, Hash)]
 pub struct ResetEndpointCommandTrbData {
     /// The endpoint: five bits.
     pub endpoint_id: u8,
@@ -85,7 +85,7 @@ pub struct ResetEndpointCommandTrbData {
 
 /// Of a Stop Endpoint command (xHCI 6.4.3.8).
 #[repr(C)]
-#[derive(Debug, Clone, Copy, PartialEq, Eq)]
+#[derive(Debug, Clone, Copy, PartialEq, Eq, Hash)]
 pub struct StopEndpointCommandTrbData {
     /// The endpoint: five bits.
     pub endpoint_id: u8,
@@ -95,7 +95,7 @@ pub struct StopEndpointCommandTrbData {
 
 /// Of a Set TR Dequeue Pointer command (xHCI 6.4.3.9).
 #[repr(C)]
-#[derive(Debug, Clone, Copy, PartialEq, Eq)]
+#[derive(Debug, Clone, Copy, PartialEq, Eq, Hash)]
 pub struct SetTrDequeuePointerCommandTrbData {
     /// The place that the ring is to have: a multiple of 16.
     pub dequeue_pointer: u64,
@@ -113,7 +113,7 @@ pub struct SetTrDequeuePointerCommandTrbData {
 
 /// Of a Reset Device command (xHCI 6.4.3.10).
 #[repr(C)]
-#[derive(Debug, Clone, Copy, PartialEq, Eq)]
+#[derive(Debug, Clone, Copy, PartialEq, Eq, Hash)]
 pub struct ResetDeviceCommandTrbData {
     /// The device slot.
     pub slot_id: u8,

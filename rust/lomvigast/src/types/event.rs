@@ -2,7 +2,7 @@ use super::CompletionCode;
 
 /// An event, as the controller puts it on the event ring (xHCI 6.4.2).
 #[repr(u8)]
-#[derive(Debug, Clone, Copy, PartialEq, Eq)]
+#[derive(Debug, Clone, Copy, PartialEq, Eq, Hash)]
 pub enum EventTrb {
     /// A transfer ended (xHCI 6.4.2.1).
     Transfer(TransferEventTrbData) = 32,
@@ -14,7 +14,7 @@ pub enum EventTrb {
 
 /// Of a Transfer Event (xHCI 6.4.2.1).
 #[repr(C)]
-#[derive(Debug, Clone, Copy, PartialEq, Eq)]
+#[derive(Debug, Clone, Copy, PartialEq, Eq, Hash)]
 pub struct TransferEventTrbData {
     /// The TRB that it is of, or an Event Data TRB's number.
     pub trb_pointer: u64,
@@ -32,7 +32,7 @@ pub struct TransferEventTrbData {
 
 /// Of a Command Completion Event (xHCI 6.4.2.2).
 #[repr(C)]
-#[derive(Debug, Clone, Copy, PartialEq, Eq)]
+#[derive(Debug, Clone, Copy, PartialEq, Eq, Hash)]
 pub struct CommandCompletionEventTrbData {
     /// The command's TRB: a multiple of 16.
     pub command_trb_pointer: u64,
@@ -46,7 +46,7 @@ pub struct CommandCompletionEventTrbData {
 
 /// Of a Port Status Change Event (xHCI 6.4.2.3).
 #[repr(C)]
-#[derive(Debug, Clone, Copy, PartialEq, Eq)]
+#[derive(Debug, Clone, Copy, PartialEq, Eq, Hash)]
 pub struct PortStatusChangeEventTrbData {
     /// The port that changed.
     pub port_id: u8,

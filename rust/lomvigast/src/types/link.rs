@@ -1,5 +1,5 @@
 /// A Link TRB (xHCI 6.4.4.1).
-#[derive(Debug, Clone, Copy, PartialEq, Eq)]
+#[derive(Debug, Clone, Copy, PartialEq, Eq, Hash)]
 pub struct LinkTrb {
     /// Where it leads, with the low four bits cleared.
     pub ring_segment_pointer: u64,

@@ -36,7 +36,7 @@ pub type RawTrbBuffer = [u8; 16];
 
 /// A TRB and where it stands in guest memory.
 #[repr(C)]
-#[derive(Debug, Clone, Copy, PartialEq, Eq)]
+#[derive(Debug, Clone, Copy, PartialEq, Eq, Hash)]
 pub struct RawTrb {
     /// The guest address of its first byte.
     pub address: u64,
@@ -45,7 +45,7 @@ pub struct RawTrb {
 }
 
 /// Sixteen bytes that a parser refused.
-#[derive(Debug, Clone, Copy, PartialEq, Eq)]
+#[derive(Debug, Clone, Copy, PartialEq, Eq, Hash)]
 pub struct Unrecognized {
     /// The bytes that were given.
     pub buffer: RawTrbBuffer,

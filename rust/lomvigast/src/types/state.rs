@@ -37,14 +37,14 @@ macro_rules! state {
     ($($(#[$note:meta])* $field:ident: $kind:ty,)*) => {
         /// All that an event ring or its reader holds, as one saves it or looks at it. Any values are allowed; those that
         /// break a ring's limits are refused with 4 when it is used.
-        #[derive(Debug, Clone, Copy, PartialEq, Eq)]
+        #[derive(Debug, Clone, Copy, PartialEq, Eq, Hash)]
         pub struct RingState {
             $($(#[$note])* pub $field: $kind,)*
         }
 
         /// The same as the archive changes it in place. Each word is one that its field can hold.
         #[repr(C)]
-        #[derive(Debug, Clone, Default, PartialEq, Eq)]
+        #[derive(Debug, Clone, Default, PartialEq, Eq, Hash)]
         pub struct State {
             $(pub $field: u64,)*
         }

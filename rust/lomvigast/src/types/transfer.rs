@@ -3,7 +3,7 @@ use crate::Refusal;
 
 /// A TRB of a transfer ring (xHCI 6.4.1). Links are not among them: [`crate::linked_ring::LinkedRing`] follows those.
 #[repr(u8)]
-#[derive(Debug, Clone, Copy, PartialEq, Eq)]
+#[derive(Debug, Clone, Copy, PartialEq, Eq, Hash)]
 pub enum TransferTrbVariant {
     /// Normal (type 1).
     Normal(NormalTrb) = 1,
@@ -25,7 +25,7 @@ pub enum TransferTrbVariant {
 
 /// A Normal TRB (xHCI 6.4.1.1).
 #[repr(C)]
-#[derive(Debug, Clone, Copy, PartialEq, Eq)]
+#[derive(Debug, Clone, Copy, PartialEq, Eq, Hash)]
 pub struct NormalTrb {
     /// Where the data is, or the data itself.
     pub data_pointer: u64,
@@ -43,7 +43,7 @@ pub struct NormalTrb {
 
 /// A Setup Stage TRB (xHCI 6.4.1.2.1).
 #[repr(C)]
-#[derive(Debug, Clone, Copy, PartialEq, Eq)]
+#[derive(Debug, Clone, Copy, PartialEq, Eq, Hash)]
 pub struct SetupStageTrb {
     /// `bmRequestType` of USB's setup data.
     pub request_type: u8,
@@ -61,7 +61,7 @@ pub struct SetupStageTrb {
 
 /// A Data Stage TRB (xHCI 6.4.1.2.2).
 #[repr(C)]
-#[derive(Debug, Clone, Copy, PartialEq, Eq)]
+#[derive(Debug, Clone, Copy, PartialEq, Eq, Hash)]
 pub struct DataStageTrb {
     /// Where the data is, or the data itself.
     pub data_pointer: u64,
@@ -81,7 +81,7 @@ pub struct DataStageTrb {
 
 /// A Status Stage TRB (xHCI 6.4.1.2.3).
 #[repr(C)]
-#[derive(Debug, Clone, Copy, PartialEq, Eq)]
+#[derive(Debug, Clone, Copy, PartialEq, Eq, Hash)]
 pub struct StatusStageTrb {
     /// Whether the next TRB belongs to the same transfer.
     pub chain: bool,
@@ -93,7 +93,7 @@ pub struct StatusStageTrb {
 
 /// An Event Data TRB (xHCI 6.4.4.2).
 #[repr(C)]
-#[derive(Debug, Clone, Copy, PartialEq, Eq)]
+#[derive(Debug, Clone, Copy, PartialEq, Eq, Hash)]
 pub struct EventDataTrb {
     /// The number that its event carries.
     pub event_data: u64,
@@ -105,7 +105,7 @@ pub struct EventDataTrb {
 
 /// A No Op TRB (xHCI 6.4.1.4).
 #[repr(C)]
-#[derive(Debug, Clone, Copy, PartialEq, Eq)]
+#[derive(Debug, Clone, Copy, PartialEq, Eq, Hash)]
 pub struct NoOpTrb {
     /// Whether the next TRB belongs to the same transfer, where usbvfiod writes a warning.
     pub chain: bool,
