@@ -387,15 +387,14 @@ fn event(words: &mut Words<'_>) -> Result<Event, Fault> {
 
 fn state(words: &mut Words<'_>) -> Result<RingState, Fault> {
     let mut fields = Fields::new(words)?;
-    let state = RingState {
-        ready: fields.bit("ready")?,
-        table: fields.number("table", 0)?,
-        entries: fields.number("entries", 0)?,
-        index: fields.number("index", 0)?,
-        place: fields.number("place", 0)?,
-        remaining: fields.number("remaining", 0)?,
-        cycle: fields.bit("cycle")?,
-    };
+    let mut state = RingState::default();
+    state.ready = fields.bit("ready")?;
+    state.table = fields.number("table", 0)?;
+    state.entries = fields.number("entries", 0)?;
+    state.index = fields.number("index", 0)?;
+    state.place = fields.number("place", 0)?;
+    state.remaining = fields.number("remaining", 0)?;
+    state.cycle = fields.bit("cycle")?;
     fields.end()?;
     Ok(state)
 }

@@ -232,6 +232,8 @@ fn event(trb: &RawTrbBuffer) -> Result<String, Refusal> {
             (e.completion_code, parameter, e.slot_id, 0, false)
         }
         EventTrb::PortStatusChange(_) => (CompletionCode::Success, 0, 0, 0, false),
+        // Its bytes, and no guess at its fields.
+        _ => return Ok(format!("an event without words here yet, bytes {trb:02x?}")),
     };
     Ok(format!(
         "TRB {:016x} status '{}' len {length} slot {slot} ep {endpoint} type '{}' flags {}",

@@ -76,8 +76,9 @@ impl Answer {
             Self::Place(ring) => ("place", "cycle", ring.get_dequeue_pointer().1.into()),
             Self::State(state) => ("state", "ready", state.ready.into()),
             Self::Link(_) => ("read", "type", 6),
-            Self::Command(n, _) | Self::Transfer(n, _) => ("read", "type", u64::from(*n)),
-            Self::Event(event) => ("read", "type", event_type(event).into()),
+            Self::Command(n, _) | Self::Transfer(n, _) | Self::Event(n, _) => {
+                ("read", "type", u64::from(*n))
+            }
             Self::EventBytes(trb) => ("bytes", "type", trb_type(trb).into()),
             Self::Configured(state) => ("configured", "entry", state.index.into()),
             Self::Accepted(accepted) => ("accepted", "cycle", accepted.cycle.into()),
@@ -124,7 +125,7 @@ impl fmt::Display for Answer {
             ),
             Self::Command(n, command) => typed(*n, &command_fields(command)),
             Self::Transfer(n, transfer) => typed(*n, &transfer_fields(transfer)),
-            Self::Event(event) => typed(event_type(event), &event_fields(event)),
+            Self::Event(n, event) => typed(*n, &event_fields(event)),
             Self::EventBytes(trb) => format!("bytes: {}", bytes(trb)),
             Self::Place(ring) => place_words(ring),
             Self::Chase(chase) => chase_words(chase),
@@ -369,14 +370,6 @@ fn transfer_fields(transfer: &TransferTrbVariant) -> String {
     }
 }
 
-fn event_type(event: &EventTrb) -> u8 {
-    match event {
-        EventTrb::Transfer(_) => 32,
-        EventTrb::CommandCompletion(_) => 33,
-        EventTrb::PortStatusChange(_) => 34,
-    }
-}
-
 /// The fields as a script gives them.
 fn event_fields(event: &EventTrb) -> String {
     match event {
@@ -399,6 +392,7 @@ fn event_fields(event: &EventTrb) -> String {
             code_name(e.completion_code)
         ),
         EventTrb::PortStatusChange(e) => format!("port={}", e.port_id),
+        _ => "an event without words here yet".to_owned(),
     }
 }
 

@@ -41,7 +41,7 @@ pub enum Answer {
     NoData(u8),
     Command(u8, CommandTrbVariant),
     Transfer(u8, TransferTrbVariant),
-    Event(EventTrb),
+    Event(u8, EventTrb),
     EventBytes(RawTrbBuffer),
     Place(LinkedRing),
     Chase(Chase),
@@ -206,7 +206,7 @@ impl World {
                 }
                 transfer => Answer::Transfer(trb_type, transfer),
             },
-            TrbCall::ParseEvent => Answer::Event(EventTrb::parse(trb)?),
+            TrbCall::ParseEvent => Answer::Event(trb_type, EventTrb::parse(trb)?),
             TrbCall::Data => {
                 let info = dma_info(trb)?;
                 let part = info.data(self.memory())?;

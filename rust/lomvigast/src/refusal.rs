@@ -3,7 +3,8 @@ use core::fmt;
 
 /// Why a call was refused: one of the thirteen numbered refusals of document 01.
 ///
-/// A refused call has changed no byte of guest memory and no ring.
+/// A refused call has changed no byte of guest memory and no ring. More numbers will come: a `match` has an arm for those that
+/// it does not know, and takes none of them for success or for an idle ring.
 ///
 /// ```
 /// use lomvigast::Refusal;
@@ -16,6 +17,7 @@ use core::fmt;
 // The tags are the numbers: the archives write a refusal where it stands in an answer.
 #[repr(u8)]
 #[derive(Debug, Clone, Copy, PartialEq, Eq, Hash)]
+#[non_exhaustive]
 pub enum Refusal {
     /// 1: a byte to be touched is not inside the lent memory.
     Outside = 1,

@@ -42,6 +42,7 @@ fn fits(event: &EventTrb) -> bool {
             t.command_trb_pointer % 16 == 0 && t.command_completion_parameter < 1 << 24
         }
         EventTrb::PortStatusChange(_) => true,
+        other => panic!("no limits are known here of {other:?}"),
     }
 }
 

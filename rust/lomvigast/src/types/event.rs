@@ -1,8 +1,10 @@
 use super::CompletionCode;
 
-/// An event, as the controller puts it on the event ring (xHCI 6.4.2).
+/// An event, as the controller puts it on the event ring (xHCI 6.4.2). xHCI has more kinds than stand here, and more will come:
+/// a `match` has an arm for those that it does not know.
 #[repr(u8)]
 #[derive(Debug, Clone, Copy, PartialEq, Eq, Hash)]
+#[non_exhaustive]
 pub enum EventTrb {
     /// A transfer ended (xHCI 6.4.2.1).
     Transfer(TransferEventTrbData) = 32,

@@ -1,6 +1,9 @@
 //! Plain data. What crosses to the archives is laid out as they write and read it (the definitions under crates/trb_ffi/specs,
 //! crates/words/specs and crates/lomvigast_ffi/specs say which byte holds what): an enum's tag is its first byte, and its
 //! records are C's. Nothing here calls anything.
+//!
+//! `#[non_exhaustive]` is what a request to come adds to: refusals, events, a ring's state. What xHCI or this core fixes is not,
+//! so that a caller can match all of it: above all a chase's four answers.
 
 mod chase;
 mod codes;

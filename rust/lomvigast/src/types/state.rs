@@ -37,7 +37,23 @@ macro_rules! state {
     ($($(#[$note:meta])* $field:ident: $kind:ty,)*) => {
         /// All that an event ring or its reader holds, as one saves it or looks at it. Any values are allowed; those that
         /// break a ring's limits are refused with 4 when it is used.
-        #[derive(Debug, Clone, Copy, PartialEq, Eq, Hash)]
+        ///
+        /// More fields will come, so one is made of the default, all 0, which is a ring that was never configured:
+        ///
+        /// ```
+        /// use lomvigast::event_ring::{EventRing, RingState};
+        ///
+        /// let mut state = RingState::default();
+        /// assert_eq!(state, EventRing::new().state());
+        /// state.ready = true;
+        /// state.entries = 1;
+        /// state.place = 0x100;
+        /// state.remaining = 2;
+        /// state.cycle = true;
+        /// assert_eq!(EventRing::from(state).state(), state);
+        /// ```
+        #[derive(Debug, Clone, Copy, Default, PartialEq, Eq, Hash)]
+        #[non_exhaustive]
         pub struct RingState {
             $($(#[$note])* pub $field: $kind,)*
         }

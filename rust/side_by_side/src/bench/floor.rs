@@ -145,6 +145,7 @@ fn events() -> Vec<Event> {
             port: t.port_id,
             ..Event::default()
         },
+        other => panic!("C has no form here for {other:?}"),
     };
     port::events().iter().map(flat).collect()
 }

@@ -53,6 +53,7 @@ pub fn original_event(event: &p::EventTrb) -> o::EventTrb {
         p::EventTrb::PortStatusChange(t) => {
             o::EventTrb::new_port_status_change_event_trb(t.port_id)
         }
+        other => panic!("the original has no event like {other:?}"),
     }
 }
 

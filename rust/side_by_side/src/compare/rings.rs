@@ -58,15 +58,14 @@ impl Pair {
             index,
             cycle,
         } = self.original.state();
-        let state = RingState {
-            ready: true,
-            table: self.table.base,
-            entries: self.table.entries(),
-            index,
-            place,
-            remaining,
-            cycle,
-        };
+        let mut state = RingState::default();
+        state.ready = true;
+        state.table = self.table.base;
+        state.entries = self.table.entries();
+        state.index = index;
+        state.place = place;
+        state.remaining = remaining;
+        state.cycle = cycle;
         (Ok(()), state)
     }
 
