@@ -56,6 +56,8 @@ impl EventRing {
 
     /// Puts the ring at the first slot of the first segment.
     ///
+    /// # Errors
+    ///
     /// Refused with 2 (`base_address` is no multiple of 64), 3 (`erst_size` is 0 or above 16), 1 (the table is not inside
     /// memory) or 5 (its first segment), in this order; the ring is then as it was.
     #[inline]
@@ -72,9 +74,13 @@ impl EventRing {
     /// Writes an event to the present slot and moves on, unless that would fill the last free slot.
     ///
     /// `dequeue_pointer` is the place up to which the driver has reported events as taken, ERDP with its low four bits
-    /// cleared. Where the ring is full the event is the caller's to keep. Refused with 8 (the event), 4
-    /// (this ring), 6 (`dequeue_pointer`), 1 (the slot, or the next table entry where one slot remains), 5 (that entry) or 7
-    /// (full), in this order; no byte of memory has then changed, and the ring is as it was.
+    /// cleared.
+    ///
+    /// # Errors
+    ///
+    /// Refused with 8 (the event), 4 (this ring), 6 (`dequeue_pointer`), 1 (the slot, or the next table entry where one slot
+    /// remains), 5 (that entry) or 7 (full: the event is the caller's to keep), in this order; no byte of memory has then
+    /// changed, and the ring is as it was.
     #[inline]
     pub fn enqueue(
         &mut self,
@@ -131,6 +137,10 @@ impl EventReader {
     }
 
     /// As [`EventRing::configure`].
+    ///
+    /// # Errors
+    ///
+    /// As there.
     #[inline]
     pub fn configure(
         &mut self,
@@ -144,6 +154,8 @@ impl EventReader {
 
     /// The next event's bytes, or `None` if the slot is stale: on a ring that began with zeroed segments and that nobody else
     /// writes to, every event was then taken.
+    ///
+    /// # Errors
     ///
     /// Refused with 4 (this reader), 1 (the slot, or the next table entry after a segment's last event) or 5 (that entry), in
     /// this order; the reader is then as it was.

@@ -29,6 +29,7 @@
 
 #![no_std]
 #![deny(missing_docs)]
+#![deny(clippy::missing_errors_doc)]
 #![deny(unsafe_op_in_unsafe_fn)]
 // Everything unsafe stands in `ffi`.
 #![deny(unsafe_code)]

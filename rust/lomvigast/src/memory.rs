@@ -31,24 +31,40 @@ impl<'a> GuestMemory<'a> {
     }
 
     /// The little-endian number of two bytes at `address`.
+    ///
+    /// # Errors
+    ///
+    /// Refused with 1 where they are not all inside memory.
     #[inline]
     pub fn read2(self, address: u64) -> Result<u16, Refusal> {
         Ok(number(ffi::read2(self.bytes, address))? as u16)
     }
 
     /// The little-endian number of four bytes at `address`.
+    ///
+    /// # Errors
+    ///
+    /// Refused with 1 where they are not all inside memory.
     #[inline]
     pub fn read4(self, address: u64) -> Result<u32, Refusal> {
         Ok(number(ffi::read4(self.bytes, address))? as u32)
     }
 
     /// The little-endian number of eight bytes at `address`.
+    ///
+    /// # Errors
+    ///
+    /// Refused with 1 where they are not all inside memory.
     #[inline]
     pub fn read8(self, address: u64) -> Result<u64, Refusal> {
         number(ffi::read8(self.bytes, address))
     }
 
     /// The sixteen bytes of a TRB at `address`.
+    ///
+    /// # Errors
+    ///
+    /// Refused with 1 where they are not all inside memory.
     #[inline]
     pub fn read_trb(self, address: u64) -> Result<RawTrbBuffer, Refusal> {
         ffi::read_trb(self.bytes, address).map_err(|number| Refusal::of(number, 0))
@@ -87,7 +103,11 @@ impl<'a> GuestMemoryMut<'a> {
         GuestMemory::new(self.bytes)
     }
 
-    /// Writes the sixteen bytes of a TRB to `address`: all of them, or none.
+    /// Writes the sixteen bytes of a TRB to `address`.
+    ///
+    /// # Errors
+    ///
+    /// Refused with 1 where they would not all be inside memory; none of them is then written.
     #[inline]
     pub fn write_trb(&mut self, address: u64, trb: &RawTrbBuffer) -> Result<(), Refusal> {
         Refusal::check(ffi::write_trb(self.bytes, address, trb), 0)

@@ -18,13 +18,17 @@ impl Class {
 impl TryFrom<u8> for CompletionCode {
     type Error = Refusal;
 
-    /// The code that a byte stands for, or refusal 12.
+    /// The code that a byte stands for.
     ///
     /// ```
     /// use lomvigast::{trb::CompletionCode, Refusal};
     /// assert_eq!(CompletionCode::try_from(13), Ok(CompletionCode::ShortPacket));
     /// assert_eq!(CompletionCode::try_from(30), Err(Refusal::Code));
     /// ```
+    ///
+    /// # Errors
+    ///
+    /// Refused with 12 where it is none of the 36.
     #[inline]
     fn try_from(byte: u8) -> Result<Self, Refusal> {
         let coded = ffi::code_of(byte);

@@ -47,8 +47,7 @@ impl EventTrb {
         Self::PortStatusChange(PortStatusChangeEventTrbData { port_id })
     }
 
-    /// The event's bytes with this cycle bit, or refusal 8: a command pointer with low four bits set, a parameter or length of
-    /// 2^24 or more.
+    /// The event's bytes with this cycle bit.
     ///
     /// ```
     /// use lomvigast::trb::{CompletionCode, EventTrb};
@@ -63,6 +62,10 @@ impl EventTrb {
     /// assert_eq!(long.to_bytes(true), Err(Refusal::Event));
     /// # Ok::<(), Refusal>(())
     /// ```
+    ///
+    /// # Errors
+    ///
+    /// Refused with 8: a command pointer with low four bits set, a parameter or length of 2^24 or more.
     #[inline]
     pub fn to_bytes(&self, cycle_bit: bool) -> Result<RawTrbBuffer, Refusal> {
         let trb = ffi::event_bytes(self, cycle_bit.into());
@@ -73,8 +76,12 @@ impl EventTrb {
         Ok(trb.into())
     }
 
-    /// The event that was written as these bytes, with either cycle bit; refused are, in this order, other types (10), a code
-    /// that the event cannot hold (12) and bits that no event of its type has (11).
+    /// The event that was written as these bytes, with either cycle bit.
+    ///
+    /// # Errors
+    ///
+    /// Refused with 10 (another type), 12 (a code that the event cannot hold) or 11 (a bit that no event of its type has), in
+    /// this order, and with the bytes beside it.
     #[inline]
     pub fn parse(bytes: RawTrbBuffer) -> Result<Self, Unrecognized> {
         ffi::parse_event(&bytes)

@@ -39,14 +39,21 @@ pub trait TrbDmaInfo {
     /// Whether its end makes an event.
     fn has_interrupt_on_completion(&self) -> bool;
 
-    /// The very part of guest memory that the TRB points at, uncopied; refused with 13 (immediate) or 1 (not inside memory),
-    /// in this order.
+    /// The very part of guest memory that the TRB points at, uncopied.
+    ///
+    /// # Errors
+    ///
+    /// Refused with 13 (immediate) or 1 (not inside memory), in this order.
     #[inline]
     fn data<'a>(&self, memory: GuestMemory<'a>) -> Result<&'a [u8], Refusal> {
         Ok(&memory.bytes[part(memory, self)?])
     }
 
     /// The same part, to be changed: where a device puts what it sends.
+    ///
+    /// # Errors
+    ///
+    /// As for [`TrbDmaInfo::data`].
     #[inline]
     fn data_mut<'a>(&self, memory: &'a mut GuestMemoryMut<'_>) -> Result<&'a mut [u8], Refusal> {
         let part = part(memory.shared(), self)?;
