@@ -26,30 +26,34 @@ What was done, what came back and how to read it; then a line for each: answer, 
   1  a guest that cannot be trusted: links in a circle, 256 links and one more, tables that lead
      out of memory
   2  books that part: each entry of docs/DIFFERENCES.md
-  3  a late reader: a ring filled, refused with 7, drained, lapped
+  3  a late reader: a ring filled, refused with 7, drained, lapped, and a false report
 
 Without a number: all three. The lines after > are a script, as `lomvigast run` takes it; of a long
 row of one kind the middle is left out.";
 
 pub const SHOW: &str = "\
-lomvigast show [--json] [--length BYTES] DIR
-lomvigast show [--json] --memory FILE [--base ADDRESS] [--table ADDRESS --entries N]
-               [--ring ADDRESS[,CYCLE]]..
+lomvigast show [--json] [--most N] [--length BYTES] DIR
+lomvigast show [--json] [--most N] --memory FILE [--base ADDRESS] [--ring ADDRESS[,CYCLE]]..
+               [--table ADDRESS --entries N [--dequeue ADDRESS,CYCLE]]
 
 Shows each ring of a capture: a line for each TRB, in the words of Linux's own decoder, and last
-which of the answers ended the ring and why.
+which of the answers ended the ring and why. UNKNOWN and NOT LOOKED AT are never \"nothing new\".
 
-DIR has trbs.txt and rings.txt, as captures/small has.
+DIR has trbs.txt and rings.txt, as captures/small has. A ring is read from the driver's dequeue
+place; what lies before it is its history. TRBs are done, or pending.
   --length BYTES      guest memory from address 0; if left out, 134217728 (128 MiB)
 
-FILE is a raw image of guest memory.
-  --base ADDRESS      the guest address of its first byte, 0 if left out; memory before it counts
-                      as zero, and base and length together may be up to 1 GiB
+FILE is a raw image of guest memory. What it does not hold is UNKNOWN.
+  --base ADDRESS      the guest address of its first byte, 0 if left out; base and length together
+                      may be up to 1 GiB
+  --ring ADDRESS      a command or transfer ring's first TRB, with ,0 or ,1 after it the cycle
+                      state there (if left out, both are followed); once for each ring
   --table ADDRESS     the event ring's segment table,
   --entries N         and how many entries it has
-  --ring ADDRESS      a command or transfer ring's first TRB, with ,0 or ,1 after it the cycle
-                      state (1 if left out); once for each ring
+  --dequeue ADDRESS,CYCLE
+                      where the driver stands on it, and its cycle state
 
+  --most N            lists N TRBs at most, of all rings together; if left out, 16384
   --json              one object a line: for each TRB, and at the end of each ring";
 
 pub const PICTURE: &str = "\

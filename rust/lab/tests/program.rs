@@ -1,6 +1,7 @@
 //! The program as a user runs it: exit status, help, and an end of the pipe.
 
-use std::io::Write;
+use std::io::{BufRead, BufReader, Write};
+use std::path::Path;
 use std::process::{Command, Output, Stdio};
 
 fn lab() -> Command {
@@ -79,6 +80,25 @@ const MISUSES: &[(&[&str], &str)] = &[
         "--base is given twice",
     ),
     (&["show", "--length", "1073741825", "x"], "above the limit"),
+    (&["show", "--most", "all", "x"], "no number"),
+    (
+        &["show", "--memory", "x", "--ring", "0", "--dequeue", "0,1"],
+        "--dequeue goes with --table",
+    ),
+    (
+        &[
+            "show",
+            "--memory",
+            "x",
+            "--table",
+            "0",
+            "--entries",
+            "1",
+            "--dequeue",
+            "0",
+        ],
+        "needs the driver's cycle state",
+    ),
 ];
 
 #[test]
@@ -123,7 +143,7 @@ fn no_colour_in_a_pipe() {
 }
 
 #[test]
-fn a_reader_that_has_read_enough_is_no_fault() {
+fn a_reader_that_leaves_is_told_by_the_status_alone() {
     let mut child = lab()
         .args(["lesson"])
         .stdout(Stdio::piped())
@@ -132,29 +152,158 @@ fn a_reader_that_has_read_enough_is_no_fault() {
         .expect("the program starts");
     drop(child.stdout.take());
     let said = child.wait_with_output().expect("the program ends");
+    assert_eq!((said.status.code(), text(&said.stderr)), (Some(1), ""));
+}
+
+#[test]
+fn answers_that_cannot_be_written_are_1() {
+    let to = |redirection: &str| {
+        let said = Command::new("sh")
+            .args(["-c", &format!("exec \"$0\" lesson 1 {redirection}")])
+            .arg(env!("CARGO_BIN_EXE_lomvigast_lab"))
+            .output()
+            .expect("a shell");
+        (said.status.code(), text(&said.stderr).to_owned())
+    };
+    let closed = "lomvigast: the answer cannot be written: standard output is closed\n";
+    assert_eq!(to(">&-"), (Some(1), closed.to_owned()));
+    let (status, why) = to("> /dev/full");
+    assert_eq!(status, Some(1));
+    assert!(
+        why.starts_with("lomvigast: the answer cannot be written: "),
+        "{why}"
+    );
+    // Both that read and write nothing.
+    assert_eq!(to("> /dev/null"), (Some(0), String::new()));
+    assert_eq!(to("<> /dev/null >&0"), (Some(0), String::new()));
+}
+
+/// Whoever asks one thing after another has each answer before the next question.
+#[test]
+fn a_script_is_answered_line_by_line() {
+    let mut child = lab()
+        .arg("run")
+        .stdin(Stdio::piped())
+        .stdout(Stdio::piped())
+        .spawn()
+        .expect("the program starts");
+    let mut questions = child.stdin.take().expect("a pipe");
+    let mut answers = BufReader::new(child.stdout.take().expect("a pipe"));
+    for (question, answer) in [
+        ("memory 4\n", "memory: 4 bytes, all 0\n"),
+        (
+            "inside 0 4\n",
+            "yes: inside memory (from 0x0 on, length 4)\n",
+        ),
+    ] {
+        questions
+            .write_all(question.as_bytes())
+            .expect("a question");
+        let mut line = String::new();
+        answers.read_line(&mut line).expect("an answer");
+        assert_eq!(line, answer);
+    }
+    drop(questions);
+    assert!(child.wait().expect("the program ends").success());
+}
+
+/// What is said of an image of these bytes.
+fn shown(name: &str, bytes: &[u8], arguments: &[&str]) -> String {
+    let image = Path::new(env!("CARGO_TARGET_TMPDIR")).join(name);
+    std::fs::write(&image, bytes).expect("a file for the test");
+    let image = image.to_str().expect("text");
+    let said = run(&[&["show", "--memory", image], arguments].concat(), b"");
     assert_eq!((said.status.code(), text(&said.stderr)), (Some(0), ""));
+    text(&said.stdout).to_owned()
 }
 
 #[test]
 fn a_raw_image_is_shown_from_its_base() {
-    let image = std::env::temp_dir().join(format!("lomvigast-lab-{}.bin", std::process::id()));
-    // A No Op command, fresh, then a Link to address 0 where memory counts as zero.
+    // A No Op command, fresh, then a Link to address 0.
     let mut bytes = [0; 32];
     (bytes[12], bytes[13]) = (1, 23 << 2);
     (bytes[28], bytes[29]) = (1, 6 << 2);
-    std::fs::write(&image, bytes).expect("a file for the test");
-    let name = image.to_str().expect("text");
-    let said = run(
-        &[
-            "show", "--memory", name, "--base", "0x1000", "--ring", "0x1000,1",
-        ],
-        b"",
-    );
-    std::fs::remove_file(&image).expect("the file of the test");
+    let said = shown("base", &bytes, &["--base", "0x1000", "--ring", "0x1000,1"]);
     assert_eq!(
-        text(&said.stdout),
-        "ring 0x1000, from 0x00001000 with cycle state 1\n  \
+        said,
+        "ring 0x1000, first TRB at 0x00001000\n \
+         from 0x00001000 with cycle state 1\n  \
          0x00001000 No-Op Command: flags C (type 23, cycle 1)\n  \
-         nothing new: the next TRB, at 0x0, is stale (1 link followed, cycle state 1); BUT that is before the image, where memory counts as zero and nobody knows it (this is not \"nothing new\"); 1 TRB\n"
+         UNKNOWN: what stands at 0x0 is not in the image (this is not \"nothing new\"); at 0x1010 stands LINK 0000000000000000 intr 0 type 'Link' flags i:c:t:C; 1 TRB\n"
     );
+}
+
+/// The two smallest images that once were told as a TRB with "nothing new", and as "refused 5".
+#[test]
+fn memory_that_an_image_does_not_hold_is_unknown() {
+    let mut link = [0; 16];
+    (link[12], link[13]) = (3, 0x18);
+    for ring in ["0x10", "0x10,1"] {
+        let said = shown("link", &link, &["--base", "0x10", "--ring", ring]);
+        assert!(
+            said.contains("UNKNOWN: what stands at 0x0 is not in the image"),
+            "{said}"
+        );
+        assert!(!said.contains("\n  0x0000"), "a TRB is listed: {said}");
+        assert!(!said.contains("\n  nothing new"), "{said}");
+    }
+    let arguments = ["--base", "0x40", "--table", "0", "--entries", "1"];
+    let said = shown("zeros", &[0; 64], &arguments);
+    assert!(
+        said.contains("UNKNOWN: what stands at 0x0 is not in the image"),
+        "{said}"
+    );
+    assert!(!said.contains("refused"), "{said}");
+}
+
+#[test]
+fn an_image_with_the_drivers_place_tells_what_waits() {
+    // A table at 0 of one segment, 0x40 with two slots: both hold an event of the second pass.
+    let mut bytes = [0; 0x60];
+    (bytes[0], bytes[8]) = (0x40, 2);
+    (bytes[0x4d], bytes[0x5d]) = (34 << 2, 34 << 2);
+    let with = |more: &[&str]| {
+        let arguments = [&["--table", "0", "--entries", "1"], more].concat();
+        shown("driver", &bytes, &arguments)
+    };
+    assert!(with(&[]).contains("UNKNOWN: nobody said where the driver stands"));
+    let said = with(&["--dequeue", "0x50,0"]);
+    assert!(
+        said.contains("  0x00000040 ") && said.contains("(type 34, cycle 0, done)"),
+        "{said}"
+    );
+    assert!(
+        said.contains("  0x00000050 ") && said.contains("(type 34, cycle 0, pending)"),
+        "{said}"
+    );
+    assert!(
+        said.contains("\n  none: the slot at 0x40 is stale; 2 TRBs, 1 pending"),
+        "{said}"
+    );
+}
+
+/// One TRB, a Link that toggles, before 128 MiB of zeros: once 8,388,607 lines.
+#[test]
+fn a_capture_of_millions_of_lines_is_cut() {
+    let folder = Path::new(env!("CARGO_TARGET_TMPDIR")).join("cut");
+    std::fs::create_dir_all(&folder).expect("a folder for the test");
+    let write = |name: &str, text: &str| std::fs::write(folder.join(name), text).expect("a file");
+    write("trbs.txt", "0x0 10000000 00000000 00000000 03180000");
+    write(
+        "rings.txt",
+        "transfer t first 0x0 cycle 1 dequeue 0x0 enqueue 0x0",
+    );
+    let folder = folder.to_str().expect("text");
+    for (more, lines) in [(&[][..], 16_384), (&["--most", "5"], 5)] {
+        let said = run(&[&["show", folder], more].concat(), b"");
+        let said = text(&said.stdout);
+        // Two headings, the TRBs, and the end.
+        assert_eq!(said.lines().count(), 2 + lines + 1);
+        let end = said.lines().last().expect("an end");
+        let cut = format!("but {lines} TRBs are listed at most (--most N)");
+        assert!(
+            end.starts_with("  NOT LOOKED AT") && end.contains(&cut),
+            "{end}"
+        );
+    }
 }

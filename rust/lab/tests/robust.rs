@@ -260,6 +260,18 @@ fn good_scripts_with_bytes_changed() {
     }
 }
 
+/// A line that begins with "nothing new" or "none" says nothing else further on.
+fn hold_to_its_beginning(shown: &str) {
+    for line in shown.lines() {
+        let begins = |word| line.trim_start().starts_with(word);
+        if begins("nothing new") || begins("none") {
+            for word in ["BUT", "UNKNOWN", "NOT LOOKED AT", "this is not"] {
+                assert!(!line.contains(word), "{line}");
+            }
+        }
+    }
+}
+
 #[test]
 fn random_memory_as_captures() {
     let mut random = Random(5);
@@ -291,5 +303,6 @@ fn random_memory_as_captures() {
         for (json, most) in [(false, 1000), (true, 1000), (true, 3), (false, 0)] {
             fine(show(&capture, json, most, &mut Output::plain(&mut out)));
         }
+        hold_to_its_beginning(&String::from_utf8(out).expect("text"));
     }
 }
