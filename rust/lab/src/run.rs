@@ -25,6 +25,14 @@ pub fn each(
     input: &mut dyn BufRead,
     heed: &mut dyn FnMut(&Step<'_>) -> Result<(), Stop>,
 ) -> Result<(), Stop> {
+    to_the_end(input, heed).map(drop)
+}
+
+/// As `each`, and gives all as it is after the last command.
+pub fn to_the_end(
+    input: &mut dyn BufRead,
+    heed: &mut dyn FnMut(&Step<'_>) -> Result<(), Stop>,
+) -> Result<World, Stop> {
     let mut world = World::default();
     let mut bytes = Vec::new();
     for number in 1.. {
@@ -44,7 +52,7 @@ pub fn each(
             world: &world,
         })?;
     }
-    Ok(())
+    Ok(world)
 }
 
 /// The next line without its end, or `None` after the last.

@@ -59,6 +59,27 @@ fn the_last_picture_says_where_all_stand() {
 }
 
 #[test]
+fn the_svg_alone_is_the_picture_of_the_last_step() {
+    let script = late_reader();
+    let page = drawn(&script, false).expect("a page");
+    let (_, last) = page.rsplit_once("<section>").expect("a step");
+    let (start, end) = (last.find("<svg").unwrap(), last.find("</svg>").unwrap());
+    // The names inside a picture have the number of its step, from 0.
+    let step = format!("s{}r0", script.lines().count() - 1);
+    let ring = last[start..end].replace(&step, "s0r0");
+    let svg = drawn(&script, true).expect("a picture");
+    assert!(svg.contains(&ring), "{ring}\nis not in\n{svg}");
+    // Of a longer script too there is one, inside the whole. The ring stands at 0x50 with cycle 0, where the event goes.
+    let long = format!(
+        "{script}\n{}ring events add 0x50 port=7",
+        "read8 0\n".repeat(1000)
+    );
+    let svg = drawn(&long, true).expect("a picture");
+    assert_eq!(svg.matches("<svg").count(), 2);
+    assert!(svg.contains("<title>0x50: accepted, cycle bit 0</title>"));
+}
+
+#[test]
 fn what_a_user_wrote_is_text_and_not_markup() {
     let page = drawn("memory 4 # <script>alert(\"&\")</script>", false).expect("a page");
     assert!(page.contains("# &lt;script&gt;alert(&quot;&amp;&quot;)&lt;/script&gt;"));

@@ -18,26 +18,36 @@ const PAGE: usize = 64 << 20;
 
 /// Does a script and writes a page with a step for each command, or only the pictures after the last one.
 pub fn picture(input: &mut dyn BufRead, only_svg: bool, out: &mut Output<'_>) -> Result<(), Stop> {
+    let text = match only_svg {
+        true => last(input)?,
+        false => steps(input)?,
+    };
+    Ok(out.line(text)?)
+}
+
+/// The pictures after the last command, drawn once.
+fn last(input: &mut dyn BufRead) -> Result<String, Stop> {
     let mut track = Track::default();
-    let mut last = Vec::new();
+    let world = run::to_the_end(input, &mut |step| {
+        track.step(step);
+        Ok(())
+    })?;
+    Ok(svg::document(&pictures(&track, &world, 0)))
+}
+
+/// The page.
+fn steps(input: &mut dyn BufRead) -> Result<String, Stop> {
+    let mut track = Track::default();
     let mut frames = Vec::new();
     let mut length = 0;
     run::each(input, &mut |step| {
         track.step(step);
-        if only_svg {
-            last = pictures(&track, step.world, 0);
-            return Ok(());
-        }
         let frame = frame(&track, step, frames.len());
         length += frame.length();
         frames.push(frame);
         within_limits(step.number, frames.len(), length)
     })?;
-    let text = match only_svg {
-        true => svg::document(&last),
-        false => page::page(&frames),
-    };
-    Ok(out.line(text)?)
+    Ok(page::page(&frames))
 }
 
 fn frame(track: &Track, step: &Step<'_>, number: usize) -> Frame {
