@@ -106,11 +106,173 @@ fn pages_of_odd_kinds() {
     drawn(&long, true).expect("a picture");
 }
 
+/// A ring `r` on a table at 0 with one segment, at 0x1000 and of so many slots.
+fn ring_of(slots: u16) -> String {
+    let [low, high] = slots.to_le_bytes();
+    format!(
+        "memory 0x20000\npoke 0 0010000000000000 {low:02x}{high:02x}\nring r new\nring r configure 0 1\n"
+    )
+}
+
+/// The place of a slot of that segment.
+fn place(number: u64) -> u64 {
+    0x1000 + 16 * number
+}
+
+/// A reader that stands on a slot of that segment.
+fn reader_at(name: &str, number: u64) -> String {
+    let (place, remaining) = (place(number), 4096 - number);
+    format!("reader {name} from_state ready=1 entries=1 place={place} remaining={remaining}\n")
+}
+
+/// What the cells of all slots and gaps are called, in the order in which they are drawn.
+fn cells(svg: &str) -> Vec<&str> {
+    let after = svg.split("<title>").skip(1);
+    after
+        .map(|part| part.split_once("</title>").expect("an end").0)
+        .collect()
+}
+
+/// How many slots are free, accepted, taken and reported: those drawn, and those that the gaps tell of.
+fn told(svg: &str) -> ([usize; 4], [usize; 4]) {
+    let words = ["free", "accepted", "taken", "reported"];
+    let drawn = |word| {
+        let slot = format!(": {word}, cycle bit ");
+        let slots = cells(svg).into_iter();
+        slots.filter(|cell| cell.contains(&slot)).count()
+    };
+    let left_out = |word| {
+        let gaps = cells(svg).into_iter();
+        let gaps = gaps.filter_map(|cell| cell.split_once(" not drawn: "));
+        let told = gaps.flat_map(|(_, told)| told.split([',', '(']));
+        let told = told.filter_map(|part| part.trim().strip_suffix(word));
+        told.map(|number| number.trim().parse::<usize>().expect("a number"))
+            .sum()
+    };
+    (words.map(drawn), words.map(left_out))
+}
+
+/// All that is drawn of a slot, with the marks at it.
+fn at_slot(svg: &str, number: u64) -> &str {
+    let title = format!("<title>{:#x}: ", place(number));
+    let (_, after) = svg.split_once(&title).expect("a slot that is drawn");
+    after.split("<g>").next().expect("a part")
+}
+
+const RING: &str = "\u{25bc} ring";
+const REPORT: &str = "\u{25c6} report";
+
 #[test]
-fn a_long_segment_is_cut_and_the_words_are_whole() {
-    let script = "memory 0x20000\npoke 0 0001000000000000 0010\nring a new\nring a configure 0 1";
-    let svg = drawn(script, true).expect("a picture");
-    assert!(svg.contains("0x100, 4096 slots") && svg.contains("the first 32 drawn"));
-    assert!(svg.contains("Slots: 4096 free, 0 accepted, 0 taken, 0 reported."));
-    assert_eq!(svg.matches("free, cycle bit 0</title>").count(), 32);
+fn seven_of_64_wait_and_all_seven_are_seen() {
+    let add = "ring r add 0x1000 port=1\n".repeat(39);
+    let take = "reader d take\n".repeat(32);
+    let reader = "reader d new\nreader d configure 0 1\n";
+    let svg = drawn(&(ring_of(64) + reader + &add + &take), true).expect("a picture");
+    // The report stands on slot 0, the reader on 32 and the ring on 39. The 29 others of 32 are the nearest: up to 7 away
+    // from a mark 27 more (1 to 7, 25 to 31, 33 to 38, 40 to 46), then 8 and 24.
+    let mut all: Vec<String> = (0..64)
+        .map(|n| match n {
+            0..=31 => format!("{:#x}: taken, cycle bit 1", place(n)),
+            32..=38 => format!("{:#x}: accepted, cycle bit 1", place(n)),
+            _ => format!("{:#x}: free, cycle bit 0", place(n)),
+        })
+        .collect();
+    // Slot 9 is at 0x1090, 23 at 0x1170, 47 at 0x12f0 and 63 at 0x13f0.
+    let gap = "\u{2026} 17 not drawn: 17 free (from 0x12f0 to 0x13f0)";
+    all.splice(47..64, [gap.to_owned()]);
+    let gap = "\u{2026} 15 not drawn: 15 taken (from 0x1090 to 0x1170)";
+    all.splice(9..24, [gap.to_owned()]);
+    assert_eq!(cells(&svg), all);
+    // Together they are the segment.
+    assert_eq!(told(&svg), ([8, 7, 17, 0], [17, 0, 15, 0]));
+    assert!(svg.contains("Slots: 25 free, 7 accepted, 32 taken, 0 reported.</desc>"));
+    assert!(svg.contains(">32 of 64 drawn<"));
+    for (number, mark) in [(0, REPORT), (32, "\u{25b2} d<"), (39, RING)] {
+        assert!(at_slot(&svg, number).contains(mark), "{mark}");
+        assert_eq!(svg.matches(mark).count(), 1, "{mark}");
+    }
+    // On the cells themselves: how many, and of what.
+    for text in [">\u{2026} 15<", ">T 15<", ">\u{2026} 17<", ">F 17<"] {
+        assert_eq!(svg.matches(text).count(), 1, "{text}");
+    }
+    assert_eq!(svg.matches("stroke-dasharray").count(), 3, "and the legend");
+}
+
+#[test]
+fn a_gap_of_more_than_one_use() {
+    // The reader takes 17 and is gone. The report on 0 and the ring on 39 have ten slots around them each: 1 to 10, 29 to
+    // 49. Left out are 11 to 28, of which 11 to 16 were taken, and 50 to 63.
+    let add = "ring r add 0x1000 port=1\n".repeat(39);
+    let take = "reader d take\n".repeat(17);
+    let reader = "reader d new\nreader d configure 0 1\n";
+    let script = ring_of(64) + reader + &add + &take + "reader d reset";
+    let svg = drawn(&script, true).expect("a picture");
+    let gap = "<title>\u{2026} 18 not drawn: 12 accepted, 6 taken (from 0x10b0 to 0x11c0)</title>";
+    assert!(svg.contains(gap), "{gap}\nis not in\n{svg}");
+    assert!(svg.contains(">A 12<") && svg.contains(">T 6<"));
+    // Slots 0 to 10 taken, 29 to 38 accepted, 39 to 49 free.
+    assert_eq!(told(&svg), ([11, 10, 11, 0], [14, 12, 6, 0]));
+}
+
+#[test]
+fn marks_far_apart_in_a_long_segment() {
+    // An event is put on slot 3000, with 400 reported; a reader stands on 1000.
+    let ring = "ring r from_state ready=1 entries=1 place=0xcb80 remaining=1096 cycle=1\n";
+    let add = "ring r add 0x2900 port=1\n";
+    let script = ring_of(4096) + ring + add + &reader_at("d", 1000);
+    let svg = drawn(&script, true).expect("a picture");
+    // Slot 0, and 28 around the marks: four on either side of each, and a fifth at those on 400 and 1000.
+    assert_eq!(told(&svg), ([31, 1, 0, 0], [4064, 0, 0, 0]));
+    for (number, mark) in [(400, REPORT), (1000, "\u{25b2} d<"), (3001, RING)] {
+        assert!(at_slot(&svg, number).contains(mark), "{mark}");
+    }
+    let cells = cells(&svg);
+    let gaps = cells.iter().filter(|cell| cell.contains("not drawn"));
+    // From 1 to 394, 406 to 994, 1006 to 2996, 3006 to 4095.
+    let numbers = [(1, 394), (406, 994), (1006, 2996), (3006, 4095)];
+    let told = numbers.map(|(from, to)| {
+        let (count, from, to) = (to - from + 1, place(from), place(to));
+        format!("\u{2026} {count} not drawn: {count} free (from {from:#x} to {to:#x})")
+    });
+    assert!(gaps.eq(told.iter()), "{cells:?}");
+    assert!(svg.contains(">32 of 4096 drawn<"));
+}
+
+#[test]
+fn each_of_many_readers_is_seen() {
+    // Ring and report stand on slot 0, forty readers on 100, 200 and so on, and one more on 100.
+    let readers = (1..=40).map(|n| reader_at(&format!("r{n}"), 100 * n));
+    let script = ring_of(4096) + &readers.collect::<String>() + &reader_at("more", 100);
+    let svg = drawn(&script, true).expect("a picture");
+    assert!(at_slot(&svg, 0).contains(RING) && at_slot(&svg, 0).contains(REPORT));
+    assert!(at_slot(&svg, 100).contains("\u{25b2} 2 readers"));
+    for n in 2..=40 {
+        let mark = format!("\u{25b2} r{n}<");
+        assert!(at_slot(&svg, 100 * n).contains(&mark), "{mark}");
+    }
+    // No slot beside them; 99 between two of them, and 95 after 4000.
+    assert_eq!(told(&svg), ([41, 0, 0, 0], [4055, 0, 0, 0]));
+    assert_eq!(svg.matches(">\u{2026} 99<").count(), 40);
+    assert_eq!(svg.matches(">\u{2026} 95<").count(), 1);
+    assert!(svg.contains(">41 of 4096 drawn<"));
+}
+
+#[test]
+fn a_segment_of_32_slots_is_drawn_whole_and_one_of_33_is_not() {
+    let svg = drawn(&ring_of(32), true).expect("a picture");
+    assert_eq!(told(&svg), ([32, 0, 0, 0], [0; 4]));
+    assert!(!svg.contains(" drawn") && !svg.contains("dash"), "{svg}");
+    let svg = drawn(&ring_of(33), true).expect("a picture");
+    assert_eq!(told(&svg), ([32, 0, 0, 0], [1, 0, 0, 0]));
+    // Slot 32 is at 0x1200, behind all others.
+    let gap = "\u{2026} 1 not drawn: 1 free (from 0x1200 to 0x1200)";
+    assert_eq!(cells(&svg).last(), Some(&gap));
+    assert!(svg.contains(">33 slots<") && svg.contains(">32 of 33 drawn<"));
+}
+
+#[test]
+fn the_words_are_whole_where_slots_are_left_out() {
+    let svg = drawn(&ring_of(4096), true).expect("a picture");
+    assert!(svg.contains("Slots: 4096 free, 0 accepted, 0 taken, 0 reported.</desc>"));
+    assert!(svg.contains(">4096 slots<") && svg.contains(">32 of 4096 drawn<"));
 }

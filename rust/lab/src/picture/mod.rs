@@ -1,5 +1,6 @@
 //! Pictures of event rings: after each command of a script, what has become of every slot.
 
+mod cells;
 mod page;
 mod svg;
 mod track;

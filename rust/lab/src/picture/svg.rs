@@ -1,5 +1,6 @@
 //! An event ring in SVG: a row of slots for each segment, and where ring, readers and report stand.
 
+use super::cells::{cells, Cell};
 use super::track::{readers, Segment, Tracked, Use};
 use crate::words::{count, wrapped};
 use crate::world::World;
@@ -14,9 +15,7 @@ pub struct Picture {
     pub height: u32,
 }
 
-/// The most slots of a segment that are drawn.
-const DRAWN: u32 = 32;
-/// The slots of a line: a longer segment takes two lines, and a picture is never narrower than the fewest.
+/// The cells of a line: a longer segment takes more lines, and a picture is never narrower than the fewest.
 const COLUMNS: u32 = 16;
 const FEWEST: u32 = 9;
 
@@ -27,7 +26,16 @@ const BOX: u32 = 44;
 const LINE: u32 = 118;
 const LEGEND: u32 = 58;
 
-/// What a line of slots is drawn from.
+/// The edge of what is left out.
+const DASHED: &str = "stroke-dasharray=\"5 3\"";
+
+/// What is drawn of an entry of the table; an entry that is not allowed has no segment and no cell.
+struct Row {
+    segment: Option<Segment>,
+    cells: Vec<Cell>,
+}
+
+/// What rows are drawn from.
 struct Scene<'a> {
     ring: &'a RingState,
     tracked: &'a Tracked,
@@ -58,13 +66,14 @@ pub fn ring(
         readers: readers(tracked, world).collect(),
         memory: world.memory(),
     };
-    let segments = tracked.segments.iter().flatten();
-    let columns = segments.map(|segment| segment.size).max().unwrap_or(0);
-    let width = width(columns.clamp(FEWEST, COLUMNS));
+    let rows = scene.rows();
+    let columns = rows.iter().map(|row| row.cells.len() as u32).max();
+    let width = width(columns.unwrap_or(0).clamp(FEWEST, COLUMNS));
     framed(id, name, &scene.words(), width, |top| {
-        let (rows, lines) = scene.rows(top);
+        let (drawn, lines) = scene.drawn(&rows, top);
+        let cut = rows.iter().any(|row| row.drawn() < row.size());
         let end = top + LINE * lines;
-        (rows + &legend(end), LINE * lines + LEGEND)
+        (drawn + &legend(end, cut), LINE * lines + LEGEND)
     })
 }
 
@@ -114,34 +123,43 @@ impl Scene<'_> {
             Some(report) => format!("last report {report:#x}"),
             None => "no report yet".to_owned(),
         });
-        let uses = [Use::Free, Use::Accepted, Use::Taken, Use::Reported];
-        let counted = uses.map(|used| {
-            let slots = self.tracked.slots();
-            let number = slots
-                .filter(|slot| self.tracked.used(*slot) == used)
-                .count();
-            format!("{number} {}", look(used).word)
-        });
+        let counts = self.tracked.counts(self.tracked.slots());
+        let counted = counts.map(|(used, number)| format!("{number} {}", look(used).word));
         [
             format!("{}.", words.join("; ")),
             format!("Slots: {}.", counted.join(", ")),
         ]
     }
 
-    /// All segments from a height on, and how many lines they take.
-    fn rows(&self, top: u32) -> (String, u32) {
+    /// A row for each entry of the table.
+    fn rows(&self) -> Vec<Row> {
+        let marks = || {
+            let readers = self.readers.iter().map(|(_, reader)| reader.place);
+            let report = self.tracked.report;
+            readers.chain([self.ring.place]).chain(report)
+        };
+        let row = |segment: &Option<Segment>| Row {
+            segment: *segment,
+            cells: segment.map_or(Vec::new(), |segment| cells(segment, marks())),
+        };
+        self.tracked.segments.iter().map(row).collect()
+    }
+
+    /// All rows from a height on, and how many lines they take.
+    fn drawn(&self, rows: &[Row], top: u32) -> (String, u32) {
         let mut svg = String::new();
         let mut lines = 0;
-        for (n, segment) in self.tracked.segments.iter().enumerate() {
+        for (number, row) in rows.iter().enumerate() {
             let y = top + LINE * lines;
-            svg += &segment_label(n, *segment, y);
-            let slots = segment.iter().flat_map(|segment| segment.slots());
-            for (n, slot) in (0..DRAWN).zip(slots) {
-                let x = LABEL + CELL * (n % COLUMNS);
-                svg += &self.slot(slot, x, y + LINE * (n / COLUMNS));
+            svg += &row.label(number, y);
+            for (n, cell) in (0..).zip(&row.cells) {
+                let (x, y) = (LABEL + CELL * (n % COLUMNS), y + LINE * (n / COLUMNS));
+                svg += &match *cell {
+                    Cell::Slot(slot) => self.slot(slot, x, y),
+                    Cell::Gap(gap) => self.gap(gap, x, y),
+                };
             }
-            let drawn = segment.map_or(1, |segment| segment.size.clamp(1, DRAWN));
-            lines += drawn.div_ceil(COLUMNS);
+            lines += (row.cells.len() as u32).max(1).div_ceil(COLUMNS);
         }
         (svg, lines)
     }
@@ -176,6 +194,33 @@ impl Scene<'_> {
         svg + &self.marks_below(slot, middle, y)
     }
 
+    /// A dashed cell for slots that are left out: how many, and a line for each use that they are in.
+    fn gap(&self, gap: Segment, x: u32, y: u32) -> String {
+        let counts = self.tracked.counts(gap.slots());
+        let counts = counts.into_iter().filter(|(_, number)| *number > 0);
+        let counts: Vec<(Look, usize)> = counts.map(|(used, n)| (look(used), n)).collect();
+        let words = counts.iter().map(|(look, n)| format!("{n} {}", look.word));
+        let words = words.collect::<Vec<_>>().join(", ");
+        let Segment { base, size } = gap;
+        let (left, top, width) = (x + 2, y + 18, CELL - 4);
+        let (middle, height) = (x + CELL / 2, 27 + 17 * counts.len());
+        let mut svg = format!(
+            "<g><title>\u{2026} {size} not drawn: {words} (from {base:#x} to {:#x})</title>\
+             <rect x=\"{left}\" y=\"{top}\" width=\"{width}\" height=\"{height}\" rx=\"4\" fill=\"#fff\" stroke=\"#222\" {DASHED}/>\
+             <text x=\"{middle}\" y=\"{}\" font-weight=\"bold\" text-anchor=\"middle\">\u{2026} {size}</text>",
+            gap.slot(size - 1),
+            top + 18,
+        );
+        for (top, (Look { letter, colour, .. }, number)) in (top + 25..).step_by(17).zip(counts) {
+            let (left, width) = (left + 4, width - 8);
+            svg += &format!(
+                "<rect x=\"{left}\" y=\"{top}\" width=\"{width}\" height=\"15\" fill=\"{colour}\"/>"
+            );
+            svg += &label(middle, top + 12, "#222", &format!("{letter} {number}"));
+        }
+        svg + "</g>"
+    }
+
     /// Readers and report below a slot, each in a line of its own.
     fn marks_below(&self, slot: u64, middle: u32, y: u32) -> String {
         let readers = self.readers.iter();
@@ -197,28 +242,48 @@ impl Scene<'_> {
     }
 }
 
-fn segment_label(number: usize, segment: Option<Segment>, y: u32) -> String {
-    let (first, second) = match segment {
-        None => ("not allowed".to_owned(), "(refusal 1 or 5)".to_owned()),
-        Some(Segment { base, size }) => {
-            let cut = match size > DRAWN {
-                true => format!("the first {DRAWN} drawn"),
-                false => String::new(),
-            };
-            (format!("{base:#x}, {}", count(size as usize, "slot")), cut)
+impl Row {
+    fn size(&self) -> usize {
+        self.segment.map_or(0, |segment| segment.size as usize)
+    }
+
+    /// How many slots are drawn.
+    fn drawn(&self) -> usize {
+        let slots = self.cells.iter();
+        slots.filter(|cell| matches!(cell, Cell::Slot(_))).count()
+    }
+
+    /// The words before the row, each in a line of its own.
+    fn label(&self, number: usize, y: u32) -> String {
+        let (size, drawn) = (self.size(), self.drawn());
+        let mut words = match self.segment {
+            None => vec!["not allowed".to_owned(), "(refusal 1 or 5)".to_owned()],
+            Some(Segment { base, .. }) => vec![format!("{base:#x}"), count(size, "slot")],
+        };
+        if drawn < size {
+            words.push(format!("{drawn} of {size} drawn"));
         }
-    };
-    format!(
-        "<text x=\"10\" y=\"{}\" font-weight=\"bold\">Entry {number}</text>\
-         <text x=\"10\" y=\"{}\">{first}</text><text x=\"10\" y=\"{}\">{second}</text>",
-        y + 32,
-        y + 48,
-        y + 64
-    )
+        let mut y = y + 32;
+        let mut svg =
+            format!("<text x=\"10\" y=\"{y}\" font-weight=\"bold\">Entry {number}</text>");
+        for words in words {
+            y += 16;
+            svg += &format!("<text x=\"10\" y=\"{y}\">{words}</text>");
+        }
+        svg
+    }
 }
 
+/// Text in the middle of a cell, in smaller letters if it is too long for it.
 fn label(x: u32, y: u32, colour: &str, text: &str) -> String {
-    format!("<text x=\"{x}\" y=\"{y}\" text-anchor=\"middle\" fill=\"{colour}\">{text}</text>")
+    const FITS: usize = 8;
+    let small = match text.chars().count() > FITS {
+        true => " font-size=\"9\"",
+        false => "",
+    };
+    format!(
+        "<text x=\"{x}\" y=\"{y}\"{small} text-anchor=\"middle\" fill=\"{colour}\">{text}</text>"
+    )
 }
 
 /// A name that fits under a slot. The words above the slots have it whole.
@@ -252,7 +317,8 @@ fn look(used: Use) -> Look {
     }
 }
 
-fn legend(y: u32) -> String {
+/// What letters and colours say; the dashed cell is told of where slots are left out.
+fn legend(y: u32, cut: bool) -> String {
     let entries = [
         (Use::Free, "free: not used yet"),
         (Use::Accepted, "accepted, not taken"),
@@ -271,10 +337,21 @@ fn legend(y: u32) -> String {
         svg += &format!("<text x=\"{}\" y=\"{}\">{words}</text>", x + 26, y + 14);
     }
     let (x, y) = place(4);
-    svg + &format!(
+    svg += &format!(
         "<text x=\"{x}\" y=\"{}\">c0, c1: the cycle bit in memory</text>",
         y + 14
-    )
+    );
+    if cut {
+        let (x, y) = place(5);
+        svg += &format!(
+            "<rect x=\"{x}\" y=\"{y}\" width=\"18\" height=\"18\" rx=\"3\" fill=\"#fff\" stroke=\"#222\" {DASHED}/>\
+             <text x=\"{}\" y=\"{}\">not drawn: how many are what</text>",
+            x + 26,
+            y + 14
+        );
+        svg += &label(x + 9, y + 14, "#222", "\u{2026}");
+    }
+    svg
 }
 
 /// The pictures below each other as one SVG.
@@ -292,7 +369,8 @@ pub fn document(pictures: &[Picture]) -> String {
     }
     if pictures.is_empty() {
         height = 40;
-        inner = label(width / 2, 25, "#222", "There is no event ring.");
+        inner = "<text x=\"10\" y=\"25\" font-family=\"sans-serif\">There is no event ring.</text>"
+            .to_owned();
     }
     format!(
         "<svg xmlns=\"http://www.w3.org/2000/svg\" viewBox=\"0 0 {width} {height}\" width=\"{width}\" height=\"{height}\">{inner}</svg>"

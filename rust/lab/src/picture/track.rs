@@ -19,6 +19,11 @@ pub enum Use {
     Reported,
 }
 
+impl Use {
+    /// In the order of the cases, so that a use is its own place here.
+    pub const ALL: [Self; 4] = [Self::Free, Self::Accepted, Self::Taken, Self::Reported];
+}
+
 #[derive(Debug, Clone, Copy, PartialEq, Eq)]
 pub struct Segment {
     pub base: u64,
@@ -27,7 +32,27 @@ pub struct Segment {
 
 impl Segment {
     pub fn slots(self) -> impl Iterator<Item = u64> {
-        (0..u64::from(self.size)).map(move |n| self.base + 16 * n)
+        (0..self.size).map(move |number| self.slot(number))
+    }
+
+    pub fn slot(self, number: u32) -> u64 {
+        self.base + 16 * u64::from(number)
+    }
+
+    /// The number of the slot at a place, if one is there.
+    pub fn number(self, place: u64) -> Option<u32> {
+        let offset = place.checked_sub(self.base)?;
+        let number = u32::try_from(offset / 16).ok()?;
+        (offset % 16 == 0 && number < self.size).then_some(number)
+    }
+
+    /// The slots from one number up to another, if there are any.
+    pub fn part(self, from: u32, to: u32) -> Option<Self> {
+        let part = Self {
+            base: self.slot(from),
+            size: to.saturating_sub(from),
+        };
+        (part.size > 0).then_some(part)
     }
 
     /// An entry of a table, or `None` if it is one that refusal 1 or 5 is for.
@@ -74,6 +99,15 @@ impl Tracked {
 
     pub fn used(&self, slot: u64) -> Use {
         self.uses.get(&slot).copied().unwrap_or(Use::Free)
+    }
+
+    /// How many of these slots are what.
+    pub fn counts(&self, slots: impl Iterator<Item = u64>) -> [(Use, usize); 4] {
+        let mut counts = Use::ALL.map(|used| (used, 0));
+        for slot in slots {
+            counts[self.used(slot) as usize].1 += 1;
+        }
+        counts
     }
 
     /// All slots, in the ring's order.
