@@ -97,13 +97,72 @@ fn pages_of_odd_kinds() {
     assert!(drawn("ring a new", true)
         .expect("a picture")
         .contains("Not configured."));
-    let long = "memory 4\n".repeat(501);
-    let stop = drawn(&long, false).unwrap_err();
-    assert!(
-        matches!(stop, Stop::Misuse(fault) if fault == "line 501: a page has at most 500 steps")
+}
+
+/// The last step of a page and its entry in the list.
+fn last_step(page: &str) -> (&str, &str) {
+    let (entries, steps) = page.split_once("</ol>").expect("a list");
+    let (_, entry) = entries.rsplit_once("<li ").expect("an entry");
+    let (_, step) = steps.rsplit_once("<section>").expect("a step");
+    (entry, step.split_once("</section>").expect("an end").0)
+}
+
+/// So many commands, each after a comment: the first stands on line 2, the last on the line of twice its number.
+fn commented(commands: usize) -> String {
+    "# a comment\nmemory 4\n".repeat(commands)
+}
+
+#[test]
+fn a_page_of_more_than_500_steps_is_cut_and_says_so() {
+    let whole = drawn(&commented(500), false).expect("a page");
+    assert_eq!(whole.matches("<section>").count(), 500);
+    assert!(!whole.contains("CUT") && !whole.contains("answer unknown"));
+    for (commands, lines) in [
+        (501, "line 1002 was done and is not drawn"),
+        (502, "lines 1002 to 1004 were done and are not drawn"),
+        (730, "lines 1002 to 1460 were done and are not drawn"),
+    ] {
+        let page = drawn(&(commented(commands) + "# the end\n"), false).expect("a page");
+        assert_eq!(page.matches("<section>").count(), 501);
+        assert_eq!(page.matches("<li ").count(), 501);
+        let words = format!("CUT: a page has at most 500 steps; {lines}");
+        let (entry, step) = last_step(&page);
+        assert!(entry.contains(&format!("value=\"1002\"><button>{words}</button>")));
+        assert!(step.contains(&format!("<p class=\"answer unknown\">{words}</p>")));
+        // Whether there is a ring is not said here.
+        assert!(!step.contains("No event ring"));
+    }
+}
+
+#[test]
+fn what_stands_behind_the_cut_is_done_all_the_same() {
+    let stop = drawn(&(commented(600) + "nonsense"), false).expect_err("no command");
+    assert!(matches!(stop, Stop::Misuse(fault) if fault.starts_with("line 1201: ")));
+    // A picture of the end alone is never cut so.
+    let svg = drawn(&(commented(600) + &ring_of(4)), true).expect("a picture");
+    assert!(svg.contains("Slots: 4 free") && !svg.contains("CUT"));
+}
+
+#[test]
+fn a_page_of_more_than_64_mib_is_cut_and_says_so() {
+    // Sixteen times the same segment, so that a picture has 512 slots.
+    let entries = (0..16).map(|n| format!("poke {} 0010000000000000 0010\n", 16 * n));
+    let start = format!("memory 0x20000\n{}", entries.collect::<String>());
+    let ring = "ring r from_state ready=1 entries=16 place=0x1000 remaining=4096\n";
+    let script = start + ring + &"ring r state\n".repeat(480);
+    // Memory, 16 entries, the ring, and then 480 commands.
+    let last = 1 + 16 + 1 + 480;
+    let page = drawn(&script, false).expect("a page");
+    assert!(page.len() <= (64 << 20) + (1 << 20), "{}", page.len());
+    let steps = page.matches("<section>").count();
+    assert!(steps > 100, "{steps} steps: cut too early");
+    // The steps are the lines from 1 on, and then the one that says where they end.
+    let words = format!(
+        "CUT: a page has at most 64 MiB; lines {steps} to {last} were done and are not drawn"
     );
-    // One picture has no such limit.
-    drawn(&long, true).expect("a picture");
+    let (entry, step) = last_step(&page);
+    assert!(entry.contains(&words), "{entry}");
+    assert!(step.contains(&words), "{step}");
 }
 
 /// A ring `r` on a table at 0 with one segment, at 0x1000 and of so many slots.

@@ -8,14 +8,9 @@ mod track;
 use crate::output::{Output, Stop};
 use crate::run::{self, Step};
 use crate::world::World;
-use page::Frame;
+use page::{Frame, Page};
 use std::io::BufRead;
 use track::Track;
-
-/// The most steps of a page.
-const STEPS: usize = 500;
-/// The largest page, in bytes: 64 MiB.
-const PAGE: usize = 64 << 20;
 
 /// Does a script and writes a page with a step for each command, or only the pictures after the last one.
 pub fn picture(input: &mut dyn BufRead, only_svg: bool, out: &mut Output<'_>) -> Result<(), Stop> {
@@ -36,19 +31,18 @@ fn last(input: &mut dyn BufRead) -> Result<String, Stop> {
     Ok(svg::document(&pictures(&track, &world, 0)))
 }
 
-/// The page.
+/// The page. The script is done to its end where the page is cut, so that a line that cannot be read is told of.
 fn steps(input: &mut dyn BufRead) -> Result<String, Stop> {
     let mut track = Track::default();
-    let mut frames = Vec::new();
-    let mut length = 0;
+    let mut page = Page::default();
     run::each(input, &mut |step| {
-        track.step(step);
-        let frame = frame(&track, step, frames.len());
-        length += frame.length();
-        frames.push(frame);
-        within_limits(step.number, frames.len(), length)
+        page.step(step.number, |number| {
+            track.step(step);
+            frame(&track, step, number)
+        });
+        Ok(())
     })?;
-    Ok(page::page(&frames))
+    Ok(page.html())
 }
 
 fn frame(track: &Track, step: &Step<'_>, number: usize) -> Frame {
@@ -59,15 +53,6 @@ fn frame(track: &Track, step: &Step<'_>, number: usize) -> Frame {
         tone: step.answer.tone(),
         pictures: pictures(track, step.world, number),
     }
-}
-
-fn within_limits(line: u64, steps: usize, length: usize) -> Result<(), Stop> {
-    let fault = match () {
-        () if steps > STEPS => format!("a page has at most {STEPS} steps"),
-        () if length > PAGE => format!("the page would be larger than {PAGE} bytes"),
-        () => return Ok(()),
-    };
-    Err(Stop::Misuse(format!("line {line}: {fault}")))
 }
 
 /// A picture of each event ring; `number` makes the names inside them differ from step to step.
