@@ -165,6 +165,61 @@ fn a_page_of_more_than_64_mib_is_cut_and_says_so() {
     assert!(step.contains(&words), "{step}");
 }
 
+/// Rings r00, r01 and so on, so many of them.
+fn rings(number: usize) -> String {
+    (0..number).map(|n| format!("ring r{n:02} new\n")).collect()
+}
+
+#[test]
+fn of_very_many_rings_64_are_drawn_and_the_others_are_told_of() {
+    let svg = drawn(&rings(64), true).expect("a picture");
+    assert_eq!(
+        svg.matches(">Event ring r").count(),
+        2 * 64,
+        "title and head"
+    );
+    assert!(!svg.contains("CUT"));
+    let svg = drawn(&rings(65), true).expect("a picture");
+    assert!(svg.contains(">CUT: 1 of 65 event rings not drawn</title>"));
+    assert!(svg.contains(">Not drawn: r64.<"));
+    let svg = drawn(&rings(70), true).expect("a picture");
+    assert_eq!(
+        svg.matches(">Event ring r").count(),
+        2 * 64,
+        "title and head"
+    );
+    assert!(svg.contains(">Event ring r63<") && !svg.contains(">Event ring r64<"));
+    for part in [
+        "<title id=\"s0r64t\">CUT: 6 of 70 event rings not drawn</title>",
+        "<desc id=\"s0r64d\">Not drawn: r64 to r69, in the order of names. A picture has at most 64 rings and 64 MiB.</desc>",
+    ] {
+        assert!(svg.contains(part), "{part}\nis not in\n{svg}");
+    }
+    // A step of a page says it too, from the 65th ring on.
+    let page = drawn(&rings(70), false).expect("a page");
+    assert_eq!(page.matches(" event rings not drawn</title>").count(), 6);
+}
+
+#[test]
+fn of_very_large_rings_64_mib_are_drawn_and_the_others_are_told_of() {
+    // Sixteen times the same segment with readers on 512 slots: 8192 slots a ring with marks.
+    let entries = (0..16).map(|n| format!("poke {} 0010000000000000 0010\n", 16 * n));
+    let mut script = format!("memory 0x20000\n{}", entries.collect::<String>());
+    for n in 0..512 {
+        let place = place(n);
+        script += &format!("reader d{n} from_state ready=1 entries=16 place={place}\n");
+    }
+    for n in 0..40 {
+        script += &format!("ring r{n} from_state ready=1 entries=16 place=0x1000\n");
+    }
+    let svg = drawn(&script, true).expect("a picture");
+    assert!(svg.len() <= (64 << 20) + (1 << 20), "{}", svg.len());
+    let rings = svg.matches("<title id=").count() - 1;
+    assert!((1..40).contains(&rings), "{rings} rings");
+    let told = format!(">CUT: {} of 40 event rings not drawn</title>", 40 - rings);
+    assert!(svg.contains(&told), "{told}");
+}
+
 /// A ring `r` on a table at 0 with one segment, at 0x1000 and of so many slots.
 fn ring_of(slots: u16) -> String {
     let [low, high] = slots.to_le_bytes();

@@ -10,7 +10,15 @@ use crate::run::{self, Step};
 use crate::world::World;
 use page::{Frame, Page};
 use std::io::BufRead;
+use svg::Picture;
 use track::Track;
+
+/// The most steps of a page.
+const STEPS: usize = 500;
+/// The most rings of a picture.
+const RINGS: usize = 64;
+/// The largest page, and the largest picture, in MiB.
+const MIB: usize = 64;
 
 /// Does a script and writes a page with a step for each command, or only the pictures after the last one.
 pub fn picture(input: &mut dyn BufRead, only_svg: bool, out: &mut Output<'_>) -> Result<(), Stop> {
@@ -55,11 +63,22 @@ fn frame(track: &Track, step: &Step<'_>, number: usize) -> Frame {
     }
 }
 
-/// A picture of each event ring; `number` makes the names inside them differ from step to step.
-fn pictures(track: &Track, world: &World, number: usize) -> Vec<svg::Picture> {
-    let picture = |(n, (name, state)): (usize, _)| {
-        let tracked = track.ring(name);
-        svg::ring(&format!("s{number}r{n}"), name, &state, tracked, world)
-    };
-    world.rings().enumerate().map(picture).collect()
+/// A picture of each event ring, and one that says which rings have none, where they are too many; `number` makes the names
+/// inside them differ from step to step.
+fn pictures(track: &Track, world: &World, number: usize) -> Vec<Picture> {
+    let rings: Vec<_> = world.rings().collect();
+    let mut pictures = Vec::new();
+    let mut room = MIB << 20;
+    for (n, (name, state)) in rings.iter().enumerate() {
+        let id = format!("s{number}r{n}");
+        let picture = (n < RINGS).then(|| svg::ring(&id, name, state, track.ring(name), world));
+        let Some(picture) = picture.filter(|picture| picture.svg.len() <= room) else {
+            let names: Vec<&str> = rings.iter().map(|(name, _)| *name).collect();
+            pictures.push(svg::cut(&id, &names, n));
+            break;
+        };
+        room -= picture.svg.len();
+        pictures.push(picture);
+    }
+    pictures
 }

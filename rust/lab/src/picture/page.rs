@@ -1,16 +1,11 @@
 //! One page in HTML with a step for each command. It needs nothing but itself.
 
 use super::svg::{escaped, Picture};
+use super::{MIB, STEPS};
 use crate::words::Tone;
 
 const STYLE: &str = include_str!("page.css");
 const SCRIPT: &str = include_str!("page.js");
-
-/// The most steps of a page.
-const STEPS: usize = 500;
-/// The largest page, in bytes.
-const PAGE: usize = PAGE_MIB << 20;
-const PAGE_MIB: usize = 64;
 
 /// A command, its answer, and the rings after it.
 pub struct Frame {
@@ -50,8 +45,8 @@ impl Page {
 
     fn add(&mut self, frame: Frame) {
         self.length += frame.length();
-        if self.length > PAGE {
-            self.cut_at(frame.line, format!("a page has at most {PAGE_MIB} MiB"));
+        if self.length > MIB << 20 {
+            self.cut_at(frame.line, format!("a page has at most {MIB} MiB"));
         } else {
             self.frames.push(frame);
         }

@@ -2,6 +2,7 @@
 
 use super::cells::{cells, Cell};
 use super::track::{readers, Segment, Tracked, Use};
+use super::{MIB, RINGS};
 use crate::words::{count, wrapped};
 use crate::world::World;
 use lomvigast::event_ring::RingState;
@@ -51,14 +52,10 @@ pub fn ring(
     tracked: Option<&Tracked>,
     world: &World,
 ) -> Picture {
+    let title = format!("Event ring {name}");
     let Some(tracked) = tracked else {
-        return framed(
-            id,
-            name,
-            &["Not configured.".to_owned()],
-            width(FEWEST),
-            |_| (String::new(), 0),
-        );
+        let words = ["Not configured.".to_owned()];
+        return framed(id, &title, &words, width(FEWEST), |_| (String::new(), 0));
     };
     let scene = Scene {
         ring: state,
@@ -69,11 +66,33 @@ pub fn ring(
     let rows = scene.rows();
     let columns = rows.iter().map(|row| row.cells.len() as u32).max();
     let width = width(columns.unwrap_or(0).clamp(FEWEST, COLUMNS));
-    framed(id, name, &scene.words(), width, |top| {
+    framed(id, &title, &scene.words(), width, |top| {
         let (drawn, lines) = scene.drawn(&rows, top);
         let cut = rows.iter().any(|row| row.drawn() < row.size());
         let end = top + LINE * lines;
         (drawn + &legend(end, cut), LINE * lines + LEGEND)
+    })
+}
+
+/// What stands in place of the rings from a number on.
+pub fn cut(id: &str, names: &[&str], from: usize) -> Picture {
+    let (all, not_drawn) = (names.len(), &names[from..]);
+    let title = format!("CUT: {} of {all} event rings not drawn", not_drawn.len());
+    let which = match not_drawn {
+        [first, .., last] => format!("{first} to {last}, in the order of names"),
+        _ => not_drawn.concat(),
+    };
+    let words = [
+        format!("Not drawn: {which}."),
+        format!("A picture has at most {RINGS} rings and {MIB} MiB."),
+    ];
+    let width = width(FEWEST);
+    framed(id, &title, &words, width, |top| {
+        let (width, height) = (width - 8, top - 8);
+        let edge = format!(
+            "<rect x=\"4\" y=\"4\" width=\"{width}\" height=\"{height}\" fill=\"none\" stroke=\"#222\" {DASHED}/>"
+        );
+        (edge, 0)
     })
 }
 
@@ -84,13 +103,13 @@ fn width(columns: u32) -> u32 {
 /// A picture with its head; `body` draws the rest from a height on, and says how high that is.
 fn framed(
     id: &str,
-    name: &str,
+    title: &str,
     words: &[String],
     width: u32,
     body: impl FnOnce(u32) -> (String, u32),
 ) -> Picture {
     const CHARACTER: u32 = 7;
-    let (name, mut top) = (escaped(name), 30);
+    let (title, mut top) = (escaped(title), 30);
     let mut head = String::new();
     let fits = (width / CHARACTER) as usize;
     for line in words.iter().flat_map(|words| wrapped(words, fits)) {
@@ -103,9 +122,9 @@ fn framed(
     let svg = format!(
         "<svg xmlns=\"http://www.w3.org/2000/svg\" viewBox=\"0 0 {width} {height}\" width=\"{width}\" height=\"{height}\" \
          role=\"img\" aria-labelledby=\"{id}t {id}d\" font-family=\"sans-serif\" font-size=\"12\" fill=\"#222\">\
-         <title id=\"{id}t\">Event ring {name}</title><desc id=\"{id}d\">{words}</desc>\
+         <title id=\"{id}t\">{title}</title><desc id=\"{id}d\">{words}</desc>\
          <rect width=\"{width}\" height=\"{height}\" fill=\"#fff\"/>\
-         <text x=\"10\" y=\"24\" font-size=\"17\" font-weight=\"bold\">Event ring {name}</text>{head}{body}</svg>"
+         <text x=\"10\" y=\"24\" font-size=\"17\" font-weight=\"bold\">{title}</text>{head}{body}</svg>"
     );
     Picture { svg, width, height }
 }
