@@ -385,6 +385,18 @@ fn a_segment_of_32_slots_is_drawn_whole_and_one_of_33_is_not() {
 }
 
 #[test]
+fn a_mark_that_has_no_slot_is_told_of() {
+    // The segment ends before 0x1040, and 0x1008 is inside a slot.
+    let reader = "reader d from_state ready=1 entries=1 place=0x1008\n";
+    let script = ring_of(4) + reader + "ring r add 0x1040 port=1";
+    let svg = drawn(&script, true).expect("a picture");
+    let words = "Ring at 0x1010, cycle 1; reader d at 0x1008 (no slot of this table), cycle 0; \
+         last report 0x1040 (no slot of this table).";
+    assert!(svg.contains(words), "{words}\nis not in\n{svg}");
+    assert!(svg.contains(RING) && !svg.contains(REPORT) && !svg.contains("\u{25b2}"));
+}
+
+#[test]
 fn the_words_are_whole_where_slots_are_left_out() {
     let svg = drawn(&ring_of(4096), true).expect("a picture");
     assert!(svg.contains("Slots: 4096 free, 0 accepted, 0 taken, 0 reported.</desc>"));

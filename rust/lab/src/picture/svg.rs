@@ -133,13 +133,14 @@ impl Scene<'_> {
     /// Where all stand, and how many slots are what.
     fn words(&self) -> [String; 2] {
         let at = |who: &str, s: &RingState| {
-            format!("{who} at {:#x}, cycle {}", s.place, u8::from(s.cycle))
+            let (place, cycle) = (self.place(s.place), u8::from(s.cycle));
+            format!("{who} at {place}, cycle {cycle}")
         };
         let mut words = vec![at("Ring", self.ring)];
         let readers = self.readers.iter();
         words.extend(readers.map(|(name, reader)| at(&format!("reader {name}"), reader)));
         words.push(match self.tracked.report {
-            Some(report) => format!("last report {report:#x}"),
+            Some(report) => format!("last report {}", self.place(report)),
             None => "no report yet".to_owned(),
         });
         let counts = self.tracked.counts(self.tracked.slots());
@@ -148,6 +149,15 @@ impl Scene<'_> {
             format!("{}.", words.join("; ")),
             format!("Slots: {}.", counted.join(", ")),
         ]
+    }
+
+    /// A place in words. Where no slot stands no mark can be drawn, so that is said.
+    fn place(&self, place: u64) -> String {
+        let mut segments = self.tracked.segments.iter().flatten();
+        match segments.any(|segment| segment.number(place).is_some()) {
+            true => format!("{place:#x}"),
+            false => format!("{place:#x} (no slot of this table)"),
+        }
     }
 
     /// A row for each entry of the table.
