@@ -4,7 +4,7 @@ use super::track::Segment;
 use std::collections::BTreeSet;
 
 /// The most slots of a segment that are drawn, unless marks stand on more.
-pub const DRAWN: u32 = 32;
+const DRAWN: u32 = 32;
 
 /// A cell of a row.
 #[derive(Debug, Clone, Copy, PartialEq, Eq)]
@@ -28,11 +28,9 @@ pub fn cells(segment: Segment, marks: impl Iterator<Item = u64>) -> Vec<Cell> {
     cells
 }
 
-/// The slots with marks, however many; then the first one and those nearest to a mark, while there is room.
+/// The slots with marks, however many; then the first one and those nearest to a mark, while there is room: for all of
+/// them, if they are no more than that.
 fn drawn(size: u32, marks: BTreeSet<u32>) -> BTreeSet<u32> {
-    if size <= DRAWN {
-        return (0..size).collect();
-    }
     let from = match marks.is_empty() {
         true => BTreeSet::from([0]),
         false => marks.clone(),
