@@ -12,6 +12,7 @@ It never lets \"gave up looking\" pass for \"nothing there\".
   lomvigast show DIR           a capture: each ring TRB by TRB, and which answer ended it
   lomvigast run [FILE]         a script: one command a line, one answer line each
   lomvigast picture [FILE]     the same script as a page for a class room, step by step
+  ./lomvigast pack DIR         in the repository: this lab as one file, for other machines
   lomvigast COMMAND --help     more on each
 
 Exit status: 0 for every answer, refusals among them; 2 if the input or the arguments cannot
@@ -62,7 +63,8 @@ lomvigast picture [--svg] [FILE]
 Does a script, as `lomvigast run` does, and writes one page in HTML with a step for each command:
 every event ring with its segments as rows of slots, their cycle bits, what is free, accepted,
 taken and reported, and where ring, readers and the last report stand. Buttons and the arrow keys
-go forward and back. The page needs nothing from a network.
+go forward and back. The page needs nothing from a network. Slots and steps that are left out are
+told where they are missing.
 
   --svg     writes the pictures after the last command alone, as one SVG
 

@@ -20,16 +20,9 @@ pub struct Step<'a> {
     pub world: &'a World,
 }
 
-/// Does a script's commands one after another. A line that cannot be read stops it, with nothing of that line done.
+/// Does a script's commands one after another, and gives all as it is after the last. A line that cannot be read stops it,
+/// with nothing of that line done.
 pub fn each(
-    input: &mut dyn BufRead,
-    heed: &mut dyn FnMut(&Step<'_>) -> Result<(), Stop>,
-) -> Result<(), Stop> {
-    to_the_end(input, heed).map(drop)
-}
-
-/// As `each`, and gives all as it is after the last command.
-pub fn to_the_end(
     input: &mut dyn BufRead,
     heed: &mut dyn FnMut(&Step<'_>) -> Result<(), Stop>,
 ) -> Result<World, Stop> {
@@ -84,6 +77,7 @@ pub fn run(input: &mut dyn BufRead, json: bool, out: &mut Output<'_>) -> Result<
         }
         Ok(out.flush()?)
     })
+    .map(drop)
 }
 
 fn object(step: &Step<'_>) -> String {

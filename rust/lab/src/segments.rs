@@ -13,14 +13,36 @@ pub struct Segment {
 
 impl Segment {
     pub fn slots(self) -> impl Iterator<Item = u64> {
-        (0..u64::from(self.size)).map(move |n| self.base + 16 * n)
+        (0..self.size).map(move |number| self.slot(number))
     }
 
-    /// Which of its slots a place is, from 0 on.
-    pub fn slot(self, place: u64) -> Option<u32> {
-        let from_base = place.checked_sub(self.base)?;
-        let slot = u32::try_from(from_base / 16).ok()?;
-        (from_base % 16 == 0 && slot < self.size).then_some(slot)
+    pub fn slot(self, number: u32) -> u64 {
+        self.base + 16 * u64::from(number)
+    }
+
+    /// The number of the slot at a place, if one is there.
+    pub fn number(self, place: u64) -> Option<u32> {
+        let offset = place.checked_sub(self.base)?;
+        let number = u32::try_from(offset / 16).ok()?;
+        (offset % 16 == 0 && number < self.size).then_some(number)
+    }
+
+    /// The slots from one number up to another, if there are any.
+    pub fn part(self, from: u32, to: u32) -> Option<Self> {
+        let part = Self {
+            base: self.slot(from),
+            size: to.saturating_sub(from),
+        };
+        (part.size > 0).then_some(part)
+    }
+
+    pub fn length(self) -> u64 {
+        16 * u64::from(self.size)
+    }
+
+    /// Whether base and size are such as refusal 5 is not for. Whether it is inside memory is another question.
+    pub fn well_formed(self) -> bool {
+        self.base % 64 == 0 && (1..=4096).contains(&self.size)
     }
 
     /// What an entry of a table says, be it allowed or not.
@@ -28,15 +50,6 @@ impl Segment {
         let base = memory.read8(entry).ok()?;
         let size = memory.read4(entry.checked_add(8)?).ok()?;
         Some(Self { base, size })
-    }
-
-    /// Whether base and size are such as refusal 5 is not for; whether it is inside memory is another question.
-    pub fn well_formed(self) -> bool {
-        self.base % 64 == 0 && (1..=4096).contains(&self.size)
-    }
-
-    pub fn length(self) -> u64 {
-        16 * u64::from(self.size)
     }
 }
 

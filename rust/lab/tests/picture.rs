@@ -14,10 +14,13 @@ fn drawn(script: &str, only_svg: bool) -> Result<String, Stop> {
     Ok(String::from_utf8(page).expect("text"))
 }
 
-/// Lesson 3's script, whose scenes go on one after another.
+/// Lesson 3's script, whose scenes go on one after another, up to the false report.
 fn late_reader() -> String {
     let scenes = lesson(3).scenes;
-    let scripts: Vec<String> = scenes.into_iter().map(|scene| scene.script).collect();
+    let scenes = scenes
+        .into_iter()
+        .take_while(|scene| scene.title != "A false report");
+    let scripts: Vec<String> = scenes.map(|scene| scene.script).collect();
     scripts.join("\n")
 }
 

@@ -14,7 +14,7 @@ fn answers(script: &str) -> Vec<Answer> {
         answers.push(step.answer.clone());
         Ok(())
     })
-    .map(|_| ())
+    .map(drop)
     .expect("the script can be read");
     answers
 }

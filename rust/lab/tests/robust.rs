@@ -164,7 +164,7 @@ fn script(random: &mut Random, lines: u64) -> String {
 }
 
 /// A run that ended by itself or by a fault of the script.
-fn fine(ended: Result<(), Stop>) {
+fn fine<T>(ended: Result<T, Stop>) {
     if let Err(Stop::Output(error)) = ended {
         panic!("{error}");
     }

@@ -1,6 +1,6 @@
 //! Which slots of a segment are drawn, and what stands where others are left out.
 
-use super::track::Segment;
+use crate::segments::Segment;
 use std::collections::BTreeSet;
 
 /// The most slots of a segment that are drawn, unless marks stand on more.

@@ -32,7 +32,7 @@ pub fn picture(input: &mut dyn BufRead, only_svg: bool, out: &mut Output<'_>) ->
 /// The pictures after the last command, drawn once.
 fn last(input: &mut dyn BufRead) -> Result<String, Stop> {
     let mut track = Track::default();
-    let world = run::to_the_end(input, &mut |step| {
+    let world = run::each(input, &mut |step| {
         track.step(step);
         Ok(())
     })?;

@@ -1,8 +1,9 @@
 //! An event ring in SVG: a row of slots for each segment, and where ring, readers and report stand.
 
 use super::cells::{cells, Cell};
-use super::track::{readers, Segment, Tracked, Use};
+use super::track::{readers, Tracked, Use};
 use super::{MIB, RINGS};
+use crate::segments::Segment;
 use crate::words::{count, wrapped};
 use crate::world::World;
 use lomvigast::event_ring::RingState;

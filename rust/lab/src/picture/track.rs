@@ -2,6 +2,7 @@
 
 use crate::run::Step;
 use crate::script::{Command, MemoryCall, ReaderCall, RingCall};
+use crate::segments::{of_table, Segment};
 use crate::world::{Answer, World};
 use lomvigast::event_ring::RingState;
 use lomvigast::{GuestMemory, Refusal};
@@ -22,48 +23,6 @@ pub enum Use {
 impl Use {
     /// In the order of the cases, so that a use is its own place here.
     pub const ALL: [Self; 4] = [Self::Free, Self::Accepted, Self::Taken, Self::Reported];
-}
-
-#[derive(Debug, Clone, Copy, PartialEq, Eq)]
-pub struct Segment {
-    pub base: u64,
-    pub size: u32,
-}
-
-impl Segment {
-    pub fn slots(self) -> impl Iterator<Item = u64> {
-        (0..self.size).map(move |number| self.slot(number))
-    }
-
-    pub fn slot(self, number: u32) -> u64 {
-        self.base + 16 * u64::from(number)
-    }
-
-    /// The number of the slot at a place, if one is there.
-    pub fn number(self, place: u64) -> Option<u32> {
-        let offset = place.checked_sub(self.base)?;
-        let number = u32::try_from(offset / 16).ok()?;
-        (offset % 16 == 0 && number < self.size).then_some(number)
-    }
-
-    /// The slots from one number up to another, if there are any.
-    pub fn part(self, from: u32, to: u32) -> Option<Self> {
-        let part = Self {
-            base: self.slot(from),
-            size: to.saturating_sub(from),
-        };
-        (part.size > 0).then_some(part)
-    }
-
-    /// An entry of a table, or `None` if it is one that refusal 1 or 5 is for.
-    fn of_entry(memory: GuestMemory<'_>, entry: u64) -> Option<Self> {
-        let base = memory.read8(entry).ok()?;
-        let size = memory.read4(entry.checked_add(8)?).ok()?;
-        let allowed = base % 64 == 0
-            && (1..=4096).contains(&size)
-            && memory.inside(base, 16 * u64::from(size));
-        allowed.then_some(Self { base, size })
-    }
 }
 
 /// A ring that is configured, and what is known of its slots.
@@ -91,10 +50,7 @@ impl Tracked {
     }
 
     fn read_table(&mut self, memory: GuestMemory<'_>) {
-        const MOST_ENTRIES: u16 = 16;
-        let entries = 0..u64::from(self.entries.min(MOST_ENTRIES));
-        let segment = |n| Segment::of_entry(memory, self.table.checked_add(16 * n)?);
-        self.segments = entries.map(segment).collect();
+        self.segments = of_table(memory, self.table, self.entries);
     }
 
     pub fn used(&self, slot: u64) -> Use {

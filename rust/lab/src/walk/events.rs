@@ -76,7 +76,7 @@ impl Slots<'_> {
         let segments = of_table(self.capture.memory(), state.table, state.entries);
         let (index, remaining) = (0..).zip(segments).find_map(|(index, segment)| {
             let segment = segment?;
-            Some((index, segment.size - segment.slot(place)?))
+            Some((index, segment.size - segment.number(place)?))
         })?;
         (state.index, state.remaining) = (index, remaining);
         (state.place, state.cycle) = (place, cycle);
