@@ -42,7 +42,7 @@ impl Segment {
 
     /// Whether base and size are such as refusal 5 is not for. Whether it is inside memory is another question.
     pub fn well_formed(self) -> bool {
-        self.base % 64 == 0 && (1..=4096).contains(&self.size)
+        self.base.is_multiple_of(64) && (1..=4096).contains(&self.size)
     }
 
     /// What an entry of a table says, be it allowed or not.

@@ -26,7 +26,7 @@ impl Slots {
             None => self.first + 16 * slot,
             Some(slot) => self.second + 16 * slot,
         };
-        (address, n / self.count() % 2 == 0)
+        (address, (n / self.count()).is_multiple_of(2))
     }
 }
 

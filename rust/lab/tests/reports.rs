@@ -118,13 +118,15 @@ fn beside_three_counters() {
     let (mut plain, mut doubtful) = (0, 0);
     for _ in 0..400 {
         let mut script = START.to_owned();
-        let honest = next(&mut random) % 2 == 0;
+        let honest = next(&mut random).is_multiple_of(2);
         let mut reported = 0x40;
         for _ in 0..40 {
             let any = SLOTS[(next(&mut random) % 4) as usize];
             script += &match (next(&mut random) % 3, honest) {
                 (0, _) => "reader d take\n".to_owned(),
-                (_, false) if next(&mut random) % 4 == 0 => format!("ring r add {any:#x} port=1\n"),
+                (_, false) if next(&mut random).is_multiple_of(4) => {
+                    format!("ring r add {any:#x} port=1\n")
+                }
                 (1, _) => "reader d state\n".to_owned(),
                 _ => format!("ring r add {reported:#x} port=1\n"),
             };
