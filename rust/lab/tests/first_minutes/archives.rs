@@ -1,0 +1,276 @@
+//! rust/lomvigast/archives, from which `./lomvigast` and the build of rust/lomvigast have the archives. A stand-in answers
+//! for `rt`, so that nothing is proved here.
+
+use super::{append, copy, empty, lomvigast, path_without, remove, repository, said};
+use super::{stops, sums_hold, target, unused, waits};
+use std::os::unix::fs::PermissionsExt;
+use std::path::{Path, PathBuf};
+use std::process::Command;
+use std::{env, fs};
+
+/// Writes an archive where one is asked for, the one in the folder ARCHIVES if that is set; refuses the crate that REFUSES names;
+/// and tells the file PLACES where it works and on what.
+const STAND_IN: &str = r#"#!/bin/sh
+case $1 in
+version) echo 'a stand-in'; exit ;;
+staticlib)
+    mkdir -p target/staticlib
+    cat "${ARCHIVES:-/dev/null}${ARCHIVES:+/lib$2.a}" >"target/staticlib/lib$2.a"
+    ;;
+esac
+for place in . crates crates.txt target/rlib target/stamp; do readlink -f "$place"; done >>"$PLACES"
+echo "the stand-in's words on $2" >&2
+[ "$2" != "$REFUSES" ]
+"#;
+
+fn with_stand_in(mut command: Command) -> Command {
+    let folder = unused("stand_in");
+    let rt = folder.join("rt");
+    fs::write(&rt, STAND_IN).expect("a stand-in");
+    fs::set_permissions(&rt, fs::Permissions::from_mode(0o755)).expect("a stand-in");
+    let path = env::var_os("PATH").expect("PATH is set");
+    let folders = [folder.clone()].into_iter().chain(env::split_paths(&path));
+    command.env("PATH", env::join_paths(folders).expect("a path"));
+    command.env("PLACES", folder.join("places"));
+    command.env("REFUSES", "").env_remove("ARCHIVES");
+    command.env_remove("LOMVIGAST_ARCHIVE");
+    command
+}
+
+fn script(target: &Path) -> Command {
+    let mut command = Command::new(repository().join("rust/lomvigast/archives"));
+    command.arg(target);
+    command
+}
+
+fn archives(target: &Path) -> Command {
+    with_stand_in(script(target))
+}
+
+/// The folder that the stand-in's archives are put in.
+fn made(target: &Path) -> PathBuf {
+    let (status, folder, fault) = said(&mut archives(target));
+    assert_eq!(status, Some(0), "{fault}");
+    PathBuf::from(folder.trim_end())
+}
+
+/// The script's answer if it takes this folder without a word.
+fn taken(folder: &Path) -> super::Said {
+    (Some(0), format!("{}\n", folder.display()), String::new())
+}
+
+pub const NO_RT: &str = "rt, the command of the Rattle kit, is missing: install the kit, or set LOMVIGAST_ARCHIVE to a folder that `./lomvigast pack` made of these sources";
+
+const PROGRESS: &str = "\
+lomvigast: proving the core, which is done once and takes about two minutes
+lomvigast: proving guest (1 of 8)
+lomvigast: proving codes (2 of 8)
+lomvigast: proving trb (3 of 8)
+lomvigast: proving words (4 of 8)
+lomvigast: proving linked_ring (5 of 8)
+lomvigast: proving event_ring (6 of 8)
+lomvigast: proving trb_ffi (7 of 8)
+lomvigast: proving lomvigast_ffi (8 of 8)
+";
+
+#[test]
+fn the_core_is_proved_crate_by_crate_and_once() {
+    for jobs in ["1", "2"] {
+        let target = empty(&format!("proved by {jobs}"));
+        let places = target.join("places");
+        let mut first = archives(&target);
+        first.env("RT_JOBS", jobs).env("PLACES", &places);
+        let (status, folder, progress) = said(&mut first);
+        assert_eq!((status, progress.as_str()), (Some(0), PROGRESS));
+        let folder = Path::new(folder.trim_end());
+        let name = folder.file_name().and_then(|name| name.to_str());
+        let name = name.expect("text").replace('-', " ");
+        let version = fs::read_to_string(folder.join("VERSION")).expect("the version");
+        assert_eq!(
+            version,
+            format!("lomvigast {name}\nproved with a stand-in\n")
+        );
+        sums_hold(folder, 3);
+
+        let mut second = archives(&target);
+        second.env("PATH", path_without(&["rt"]));
+        assert_eq!(said(&mut second), taken(folder));
+
+        // All that `rt` works on stands in the target folder, and nothing of it in the checkout.
+        let places = fs::read_to_string(places).expect("the stand-in's places");
+        assert_eq!(places.lines().count(), 8 * 5);
+        for place in places.lines() {
+            assert!(Path::new(place).starts_with(&target), "{place}");
+        }
+    }
+}
+
+#[test]
+fn a_crate_that_is_not_proved_is_told_and_no_archive_is_left_to_take() {
+    for (jobs, name) in [
+        ("1", "guest"),
+        ("2", "guest"),
+        ("2", "codes"),
+        ("2", "trb_ffi"),
+    ] {
+        let target = empty("refused");
+        let mut refused = archives(&target);
+        refused.env("REFUSES", name).env("RT_JOBS", jobs);
+        let (status, out, fault) = said(&mut refused);
+        assert_eq!((status, out.as_str()), (Some(1), ""), "{fault}");
+        let words = format!("the stand-in's words on {name}\nlomvigast: {name} is not proved\n");
+        assert!(fault.contains(&words), "{fault}");
+        // What stands on it is not begun.
+        assert_eq!(
+            fault.contains("proving trb ("),
+            name == "trb_ffi",
+            "{fault}"
+        );
+        let mut again = archives(&target);
+        again.env("PATH", path_without(&["rt"]));
+        stops(&mut again, NO_RT);
+    }
+}
+
+#[test]
+fn cargo_alone_builds_once() {
+    let (status, real, fault) = said(&mut script(target()));
+    assert_eq!(status, Some(0), "{fault}");
+    let target = empty("cargo_alone");
+    let mut cargo = Command::new("cargo");
+    cargo.args(["build", "--quiet", "--locked", "--offline"]);
+    cargo.args(["--package", "lomvigast", "--manifest-path"]);
+    cargo.arg(repository().join("rust/Cargo.toml"));
+    cargo.arg("--target-dir").arg(&target);
+    let mut cargo = with_stand_in(cargo);
+    cargo.env("ARCHIVES", real.trim_end());
+    let built = |command: &mut Command| {
+        let (status, _, fault) = said(command);
+        assert_eq!(status, Some(0), "{fault}");
+        let data = fs::metadata(target.join("debug/liblomvigast.rlib")).expect("the crate");
+        data.modified().expect("its time")
+    };
+    let first = built(&mut cargo);
+    assert!(target.join("lomvigast/core").exists());
+    assert_eq!(built(&mut cargo), first);
+}
+
+#[test]
+fn a_second_run_waits_for_the_core_and_takes_what_the_first_made() {
+    let (first, target) = (made(&empty("first")), empty("second"));
+    let folder = target.join("lomvigast");
+    fs::create_dir(&folder).expect("a folder for the test");
+    let said = waits(
+        &mut archives(&target),
+        (
+            &folder.join("core.lock"),
+            "another run is building the core",
+        ),
+        || copy(&first, &folder),
+        b"",
+    );
+    let name = first.file_name().expect("a name");
+    assert!(said.is_none_or(|said| said == taken(&folder.join(name))));
+}
+
+#[test]
+fn archives_belong_to_the_content_of_the_sources() {
+    let (target, clone) = (empty("content"), empty("clone"));
+    let folder = made(&target);
+    let script = "rust/lomvigast/archives";
+    fs::create_dir_all(clone.join("rust/lomvigast")).expect("a folder for the test");
+    for part in ["crates", "crates.txt", script, "rust/lomvigast/Cargo.toml"] {
+        copy(&repository().join(part), &clone.join(part));
+    }
+    let path = path_without(&["rt"]);
+    let run = || {
+        let mut command = Command::new(clone.join(script));
+        command.arg(&target).env_remove("LOMVIGAST_ARCHIVE");
+        command.env("PATH", &path);
+        command
+    };
+    // Other files of the same content, and changes to what no archive is made of.
+    append(clone.join("crates/delivery/src/lib.rt"), "// more\n");
+    append(clone.join("crates.txt"), "more: guest\n");
+    fs::write(clone.join("crates/guest/must-fail/more.edit"), "").expect("an edit");
+    assert_eq!(said(&mut run()), taken(&folder));
+
+    let source = clone.join("crates/guest/src/lib.rt");
+    let text = fs::read(&source).expect("a source");
+    append(source.clone(), "// more\n");
+    stops(&mut run(), NO_RT);
+    fs::write(source, text).expect("a source");
+    assert_eq!(said(&mut run()), taken(&folder));
+
+    let list = clone.join("crates.txt");
+    let lines = fs::read_to_string(&list).expect("the list");
+    fs::write(&list, lines.replace("codes:\n", "codes: bytes\n")).expect("the list");
+    stops(&mut run(), NO_RT);
+}
+
+/// What is wrong with a folder, and what is said of it.
+type Wrong = (fn(&Path), &'static str);
+
+fn lose(folder: &Path, name: &str) {
+    fs::remove_file(folder.join(name)).expect("a file of the folder");
+}
+
+const WRONG: &[Wrong] = &[
+    (remove, "there is no folder HERE"),
+    (
+        |folder| lose(folder, "liblomvigast_ffi.a"),
+        "the folder HERE has no liblomvigast_ffi.a",
+    ),
+    (
+        |folder| lose(folder, "libtrb_ffi.a"),
+        "the folder HERE has no libtrb_ffi.a",
+    ),
+    (
+        |folder| lose(folder, "VERSION"),
+        "the folder HERE has no VERSION, which says what its archives are",
+    ),
+    (
+        |folder| lose(folder, "SHA256SUMS"),
+        "the folder HERE has no SHA256SUMS, which says what its archives are",
+    ),
+    (
+        |folder| fs::write(folder.join("VERSION"), "lomvigast 0.0.9 0\n").expect("the version"),
+        "the archives in HERE are of another version (lomvigast 0.0.9 0, and not OURS)",
+    ),
+    (
+        |folder| append(folder.join("libtrb_ffi.a"), "more"),
+        "libtrb_ffi.a in the folder HERE is not the one that its SHA256SUMS lists",
+    ),
+];
+
+#[test]
+fn archives_from_elsewhere_are_judged() {
+    let target = empty("judged");
+    let right = made(&target);
+    let version = fs::read_to_string(right.join("VERSION")).expect("the version");
+    let version = version.lines().next().expect("a line");
+    let given = target.join("given");
+    for (spoil, sentence) in WRONG {
+        remove(&given);
+        copy(&right, &given);
+        spoil(&given);
+        let name = given.to_str().expect("text");
+        let sentence = sentence.replace("HERE", name).replace("OURS", version);
+        stops(
+            lomvigast(&["lesson", "1"], &target).env("LOMVIGAST_ARCHIVE", &given),
+            &format!("LOMVIGAST_ARCHIVE: {sentence}; name one that `./lomvigast pack` made of these sources"),
+        );
+    }
+    // A right one needs no kit, and is looked for from where the caller stands.
+    remove(&given);
+    copy(&right, &given);
+    let mut command = archives(&target.join("unused"));
+    command
+        .env("PATH", path_without(&["rt"]))
+        .current_dir(&target);
+    assert_eq!(
+        said(command.env("LOMVIGAST_ARCHIVE", "given")),
+        taken(&given)
+    );
+    assert!(!target.join("unused").exists());
+}
