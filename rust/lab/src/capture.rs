@@ -71,13 +71,19 @@ impl Capture {
         }
     }
 
-    /// Whether all these bytes are known; not so what an image does not hold.
-    pub fn knows(&self, address: u64, length: u64) -> bool {
-        let Some(image) = &self.image else {
-            return true;
-        };
+    /// The first of these bytes that nobody knows, as the image does not hold it.
+    pub fn missing(&self, address: u64, length: u64) -> Option<u64> {
+        let image = self.image.as_ref()?;
         let end = address.checked_add(length);
-        image.start <= address && end.is_some_and(|end| end <= image.end)
+        match () {
+            () if address < image.start || address >= image.end => Some(address),
+            () if end.is_none_or(|end| end > image.end) => Some(image.end),
+            () => None,
+        }
+    }
+
+    pub fn knows(&self, address: u64, length: u64) -> bool {
+        self.missing(address, length).is_none()
     }
 
     pub fn memory(&self) -> GuestMemory<'_> {

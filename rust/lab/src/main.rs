@@ -1,6 +1,7 @@
 use lab::command_line;
 use lab::output::{colour_wanted, Output, Stop};
 use std::ffi::OsString;
+use std::fs::File;
 use std::io::{self, BufWriter, ErrorKind, Write};
 use std::os::fd::AsFd;
 use std::process::ExitCode;
@@ -47,7 +48,9 @@ fn written(arguments: &[OsString]) -> Result<(), Stop> {
     if CLOSED.load(Ordering::Relaxed) {
         return Err(Stop::Output(io::Error::other("standard output is closed")));
     }
-    let mut standard = BufWriter::new(io::stdout().lock());
+    // Not by the library's own, which takes a descriptor that cannot be written to for one that took all.
+    let standard = io::stdout().as_fd().try_clone_to_owned()?;
+    let mut standard = BufWriter::new(File::from(standard));
     let done = command_line::main(arguments, &mut Output::new(&mut standard, colour_wanted()));
     // What was answered before a line that cannot be read is written all the same.
     let flushed = standard.flush().map_err(Stop::Output);

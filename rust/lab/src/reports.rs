@@ -1,11 +1,30 @@
-//! Which reports were a reader's own: places where it has stood since the report before. After any other report an event may
-//! be written over that the reader has not taken, and its "none" says nothing.
+//! What a "none" is worth: which reports were a reader's own places, where it has stood since the report before, and how many
+//! events were accepted on a table and taken from it. After any other report an event may be written over that was not taken.
 
 use std::collections::{BTreeMap, VecDeque};
 
 #[derive(Default)]
 pub struct Reports {
     rings: BTreeMap<String, Ring>,
+    /// By a table's base.
+    tables: BTreeMap<u64, Table>,
+}
+
+/// How many events were accepted on a table since its segments were zero, and how many each reader has taken since it began.
+#[derive(Default)]
+struct Table {
+    accepted: u64,
+    taken: BTreeMap<String, u64>,
+}
+
+/// Why a "none" may be one although events wait.
+#[derive(Debug, Clone, Copy, PartialEq, Eq)]
+pub struct Doubt {
+    /// A report that was not the reader's own.
+    pub report: Option<u64>,
+    /// How many events were accepted on its table, and how many it has taken.
+    pub accepted: u64,
+    pub taken: u64,
 }
 
 /// A ring, and the readers on its table.
@@ -96,13 +115,41 @@ impl Reports {
         (!foreign.is_empty()).then_some(Foreign::Readers(foreign))
     }
 
-    /// A report, on any ring of this reader, that was not its own.
-    pub fn foreign_to(&self, reader: &str) -> Option<u64> {
-        let readers = self
-            .rings
-            .values()
-            .filter_map(|ring| ring.readers.get(reader));
-        readers.filter_map(|reader| reader.foreign).next()
+    /// A table's segments are zero, and a ring begins on it: what was before is over.
+    pub fn zeroed(&mut self, table: u64) {
+        self.tables.insert(table, Table::default());
+    }
+
+    pub fn accepted(&mut self, table: u64) {
+        self.tables.entry(table).or_default().accepted += 1;
+    }
+
+    /// A reader begins to take from a table, or goes on.
+    pub fn begins(&mut self, reader: &str, table: u64, goes_on: bool) {
+        let taken = &mut self.tables.entry(table).or_default().taken;
+        let count = taken.entry(reader.to_owned()).or_default();
+        *count = if goes_on { *count } else { 0 };
+    }
+
+    pub fn took(&mut self, reader: &str, table: u64) {
+        let taken = &mut self.tables.entry(table).or_default().taken;
+        *taken.entry(reader.to_owned()).or_default() += 1;
+    }
+
+    /// What speaks against a reader's "none".
+    pub fn doubt(&self, reader: &str, table: u64) -> Option<Doubt> {
+        let rings = self.rings.values();
+        let mut readers = rings.filter_map(|ring| ring.readers.get(reader));
+        let report = readers.find_map(|reader| reader.foreign);
+        let table = self.tables.get(&table);
+        let accepted = table.map_or(0, |table| table.accepted);
+        let taken = table.and_then(|table| table.taken.get(reader).copied());
+        let taken = taken.unwrap_or(0);
+        (report.is_some() || taken < accepted).then_some(Doubt {
+            report,
+            accepted,
+            taken,
+        })
     }
 }
 

@@ -61,6 +61,11 @@ struct Shown<'a> {
 
 impl Shown<'_> {
     fn lines(&self, out: &mut Output<'_>) -> Result<(), Stop> {
+        if let Some((place, why)) = &self.reading.unseen {
+            let why = unseen_words(why, self.most);
+            let words = format!("  history NOT LOOKED AT from {place:#x} on: {why}");
+            out.toned(Tone::Unknown, words)?;
+        }
         for part in &self.reading.parts {
             out.heading(format!(" {}", self.part_words(part)))?;
             for found in &part.found {
@@ -88,7 +93,7 @@ impl Shown<'_> {
         match part.stage {
             Stage::Done => format!("history, from {from}"),
             Stage::Pending => format!("from the driver's dequeue place, {from}"),
-            Stage::Astray => format!("history NOT LOOKED AT: from {from} the reader does not come to the driver's dequeue place"),
+            Stage::Beyond => format!("beyond the driver's own place, {from}: fresh, though the driver says that it has not written there"),
             Stage::Unknown if self.reading.supposed.is_some() => format!("if the cycle state is {cycle}, from {place:#010x}"),
             Stage::Unknown => format!("from {from}"),
         }
@@ -123,8 +128,8 @@ impl Shown<'_> {
     /// What ended the ring and why.
     fn end_words(&self) -> String {
         let words = ending_words(self.reading, self.most);
-        let words = match self.link_at_end() {
-            Some(link) => format!("{words}; at {:#x} stands {link}", self.reading.at.0),
+        let words = match self.stands_at_end() {
+            Some(what) => format!("{words}; at {:#x} stands {what}", self.reading.at.0),
             None => words,
         };
         match self.reading.supposed {
@@ -136,29 +141,40 @@ impl Shown<'_> {
         }
     }
 
-    /// The Link that the reader stands at, if that is why it stopped.
-    fn link_at_end(&self) -> Option<String> {
-        let linked = matches!(self.ring.start, Start::Linked(..));
-        let place = self.reading.at.0;
-        let stopped = matches!(self.reading.end.tone(), Tone::GaveUp | Tone::Refused)
-            || matches!(self.reading.end, Ending::Missing(_));
-        let seen = linked && stopped && self.capture.knows(place, 16);
-        let trb = self
-            .capture
-            .memory()
-            .read_trb(place)
-            .ok()
-            .filter(|_| seen)?;
-        (trb_type(&trb) == 6).then(|| trbs::line(Kind::Any, &trb).unwrap_or_default())
+    /// What the reader stands at, if that is why it stopped: a Link, or an event that cannot be taken.
+    fn stands_at_end(&self) -> Option<String> {
+        let end = &self.reading.end;
+        let stopped =
+            matches!(end.tone(), Tone::GaveUp | Tone::Refused) || matches!(end, Ending::Missing(_));
+        let (place, cycle) = self.reading.at;
+        let looked = stopped && !self.reading.parts.is_empty() && self.capture.knows(place, 16);
+        let trb = self.capture.memory().read_trb(place).ok();
+        let trb = trb.filter(|_| looked)?;
+        match self.ring.start {
+            Start::Linked(..) if trb_type(&trb) == 6 => trbs::line(Kind::Any, &trb).ok(),
+            Start::Table(..) if cycle_bit(&trb) == cycle => {
+                Some("a fresh event that cannot be taken".to_owned())
+            }
+            _ => None,
+        }
+    }
+
+    /// How many TRBs wait, and whether there may be more; `None` if nobody knows.
+    fn pending(&self) -> Option<(usize, bool)> {
+        let reading = self.reading;
+        let mut parts = reading.parts.iter();
+        let some = parts.any(|part| part.stage == Stage::Pending);
+        // A linked ring was followed to where the driver writes.
+        let all =
+            reading.end.tone() == Tone::Nothing || matches!(self.ring.start, Start::Linked(..));
+        some.then(|| (reading.of_stage(Stage::Pending), !all))
     }
 
     fn counts(&self) -> String {
         let trbs = count(self.reading.trbs(), "TRB");
-        match self.ring.driver {
-            Some(_) => {
-                let pending = self.reading.of_stage(Stage::Pending);
-                format!("; {trbs}, {pending} pending")
-            }
+        match self.pending() {
+            Some((pending, false)) => format!("; {trbs}, {pending} pending"),
+            Some((pending, true)) => format!("; {trbs}, {pending} or more pending"),
             None => format!("; {trbs}"),
         }
     }
@@ -198,10 +214,13 @@ impl Shown<'_> {
             let (place, cycle) = driver.place();
             object = object
                 .address("driver", place)
-                .number("driver_cycle", cycle.into())
-                .number("pending", reading.of_stage(Stage::Pending) as u64);
+                .number("driver_cycle", cycle.into());
         }
-        if reading.parts.iter().any(|part| part.stage == Stage::Astray) {
+        if let Some((pending, more)) = self.pending() {
+            let name = if more { "pending_at_least" } else { "pending" };
+            object = object.number(name, pending as u64);
+        }
+        if reading.unseen.is_some() {
             object = object.text("history", "NOT LOOKED AT");
         }
         if let Some(then) = then {
@@ -237,7 +256,8 @@ fn stage_word(stage: Stage) -> Option<&'static str> {
     match stage {
         Stage::Done => Some("done"),
         Stage::Pending => Some("pending"),
-        Stage::Astray | Stage::Unknown => None,
+        Stage::Beyond => Some("beyond"),
+        Stage::Unknown => None,
     }
 }
 
@@ -250,19 +270,42 @@ fn ending_words(reading: &Reading, most: usize) -> String {
         ),
         Ending::Missing(at) => format!("UNKNOWN: what stands at {at:#x} is not in the image"),
         Ending::NoSlot(dequeue) => format!(
-            "UNKNOWN: the driver's dequeue place, {dequeue:#x}, is no slot of this table, so nobody knows which events wait; they were written up to {place:#x}"
+            "UNKNOWN: the driver's dequeue place, {dequeue:#x}, is no slot of this table, or one of two entries, so nobody knows which events wait; they were written up to {place:#x}"
         ),
         Ending::NoDriver => format!(
             "UNKNOWN: nobody said where the driver stands (--dequeue ADDRESS,CYCLE), so nobody knows which events wait; they were written up to {place:#x}"
         ),
-        Ending::Blank => format!("UNKNOWN: at {place:#x} stands a TRB of zeros, which no driver writes"),
-        Ending::Unmet(enqueue) => format!(
-            "NOT LOOKED AT: the TRB at {place:#x} is stale (cycle state {cycle}), and what the driver wrote from there up to {enqueue:#x} was not come to"
+        Ending::Blank => format!(
+            "NOT LOOKED AT: at {place:#x} stands a TRB of zeros, which no driver writes, and nothing is listed from there on"
         ),
-        Ending::Cut => format!("NOT LOOKED AT: the ring goes on at {place:#x}, but {most} TRBs are listed at most (--most N)"),
+        Ending::Unmet(enqueue) => format!(
+            "NOT LOOKED AT: the TRB at {place:#x} is stale (cycle state {cycle}), and what the driver wrote up to {enqueue:#x} was not come to"
+        ),
+        Ending::Cut => format!("NOT LOOKED AT: the ring goes on at {place:#x}, but {}", cut_words(most)),
         Ending::Reached => format!("at {place:#x}"),
     };
     words + " (this is not \"nothing new\")"
+}
+
+fn cut_words(most: usize) -> String {
+    format!("no more than {} are listed (--most N)", count(most, "TRB"))
+}
+
+/// Why history was not come to.
+fn unseen_words(why: &Ending, most: usize) -> String {
+    match why {
+        Ending::Answer(_) if why.tone() == Tone::Nothing => {
+            "the TRB there is of another pass".to_owned()
+        }
+        Ending::Answer(answer) => answer.to_string(),
+        Ending::GoesRound => "the ring goes round there".to_owned(),
+        Ending::Missing(at) => format!("{at:#x} is not in the image"),
+        Ending::Blank => "a TRB of zeros stands there".to_owned(),
+        Ending::Cut => cut_words(most),
+        Ending::Unmet(_) | Ending::NoSlot(_) | Ending::NoDriver | Ending::Reached => {
+            "where the driver says it stands is not where the ring leads".to_owned()
+        }
+    }
 }
 
 /// The ending in a word, and its one number by name.
@@ -274,7 +317,7 @@ fn ending_brief(end: &Ending) -> (&'static str, Option<(&'static str, u64)>) {
             (word, number.filter(|(name, _)| *name != "slot"))
         }
         Ending::GoesRound => ("GOES ROUND", None),
-        Ending::Unmet(_) | Ending::Cut => ("NOT LOOKED AT", None),
+        Ending::Unmet(_) | Ending::Cut | Ending::Blank => ("NOT LOOKED AT", None),
         _ => ("UNKNOWN", None),
     }
 }

@@ -1,6 +1,6 @@
 //! An answer in words: first what it is, then its numbers. The sentences of refusals are the core's own.
 
-use crate::reports::Foreign;
+use crate::reports::{Doubt, Foreign};
 use crate::trbs::{code_name, type_name, type_words};
 use crate::world::{Accepted, Answer, Chase};
 use lomvigast::event_ring::RingState;
@@ -45,19 +45,15 @@ impl Answer {
 
     /// What is to be feared beside the answer.
     pub fn warning(&self) -> Option<String> {
-        let (report, who) = match self {
+        let why = match self {
             Self::Accepted(accepted) => {
-                (accepted.report, foreign_words(accepted.foreign.as_ref()?))
+                let who = foreign_words(accepted.foreign.as_ref()?);
+                report_words(accepted.report, &who)
             }
-            Self::NoneInDoubt(_, report) => (
-                *report,
-                "this reader had not stood since its last report".to_owned(),
-            ),
+            Self::NoneInDoubt(_, doubt) => doubt_words(doubt),
             _ => return None,
         };
-        Some(format!(
-            "WARNING: {report:#x} was reported, where {who}: events that were not taken may be written over"
-        ))
+        Some(format!("WARNING: {why}"))
     }
 
     /// The answer in a word, and its one number by name.
@@ -83,7 +79,8 @@ impl Answer {
             Self::Configured(state) => ("configured", "entry", state.index.into()),
             Self::Accepted(accepted) => ("accepted", "cycle", accepted.cycle.into()),
             Self::Taken(_, trb) => ("taken", "type", trb_type(trb).into()),
-            Self::None(slot) | Self::NoneInDoubt(slot, _) => ("none", "slot", *slot),
+            Self::None(slot) => ("none", "slot", *slot),
+            Self::NoneInDoubt(slot, _) => ("none in doubt", "slot", *slot),
             Self::NotConfigured => return ("not configured", None),
             _ => return ("done", None),
         };
@@ -136,13 +133,30 @@ impl fmt::Display for Answer {
             Self::Taken(slot, trb) => format!("taken from {slot:#x}: {}", taken_words(trb)),
             Self::None(slot) => format!("none: the slot at {slot:#x} is stale"),
             Self::NoneInDoubt(slot, _) => {
-                format!("none, which says nothing here: the slot at {slot:#x} is stale")
+                format!("none in doubt: the slot at {slot:#x} is stale")
             }
         })?;
         match self.warning() {
             Some(warning) => write!(f, "; {warning}"),
             None => Ok(()),
         }
+    }
+}
+
+fn report_words(report: u64, who: &str) -> String {
+    format!("{report:#x} was reported, where {who}: events that were not taken may be written over")
+}
+
+fn doubt_words(doubt: &Doubt) -> String {
+    let (accepted, taken) = (count(doubt.accepted as usize, "event"), doubt.taken);
+    let missed = format!("this reader has taken {taken} of {accepted} accepted on its table");
+    let report = doubt
+        .report
+        .map(|report| report_words(report, "this reader had not stood since its last report"));
+    match (report, doubt.taken < doubt.accepted) {
+        (Some(report), true) => format!("{report}; {missed}"),
+        (Some(report), false) => report,
+        (None, _) => missed,
     }
 }
 

@@ -1,10 +1,11 @@
 //! Guest memory, and the rings and readers on it by name. A command done gives an answer.
 
 use crate::lines::Fault;
-use crate::reports::{Foreign, Reports};
+use crate::reports::{Doubt, Foreign, Reports};
 use crate::script::{
     Command, Event, LinkedCall, MemoryCall, ReaderCall, RingCall, Source, TrbCall, ValueCall,
 };
+use crate::segments::of_table;
 use lomvigast::event_ring::{EventReader, EventRing, RingState};
 use lomvigast::linked_ring::{self, LinkedRing, Notes};
 use lomvigast::trb::{
@@ -52,8 +53,8 @@ pub enum Answer {
     Taken(u64, RawTrbBuffer),
     /// No event; the reader's slot, which is stale.
     None(u64),
-    /// The same after a report, which stands second, of a place where the reader never stood.
-    NoneInDoubt(u64, u64),
+    /// The same, where events may wait or be lost.
+    NoneInDoubt(u64, Doubt),
 }
 
 /// What a chase came to, and where the ring stands after it.
@@ -263,6 +264,7 @@ impl World {
                 let RingState { place, cycle, .. } = ring.state();
                 let mut memory = GuestMemoryMut::new(&mut self.memory);
                 ring.enqueue(&mut memory, &of_fields(event)?, report)?;
+                self.reports.accepted(ring.state().table);
                 return Ok(Answer::Accepted(Accepted {
                     slot: place,
                     cycle,
@@ -287,6 +289,9 @@ impl World {
         if ring.ready {
             let first = matches!(answer, Answer::Configured(_)).then_some(ring.place);
             self.reports.ring(name, first);
+            if first.is_some() && self.all_zero(&ring) {
+                self.reports.zeroed(ring.table);
+            }
         }
         for (reader, state) in &self.readers {
             let state = state.state();
@@ -296,6 +301,20 @@ impl World {
         }
     }
 
+    /// Whether the segments of a ring's table are all allowed, and zero.
+    fn all_zero(&self, ring: &RingState) -> bool {
+        let segments = of_table(self.memory(), ring.table, ring.entries);
+        segments.iter().all(|segment| {
+            segment.is_some_and(|segment| {
+                // Inside memory, so both fit.
+                let (start, length) = (segment.base as usize, segment.length() as usize);
+                self.memory[start..start + length]
+                    .iter()
+                    .all(|byte| *byte == 0)
+            })
+        })
+    }
+
     /// The same for a reader.
     fn reader_begins(&mut self, name: &str, answer: &Answer) {
         let goes_on = matches!(answer, Answer::State(_));
@@ -303,6 +322,9 @@ impl World {
         let Some(reader) = self.reader(name) else {
             return;
         };
+        if reader.ready {
+            self.reports.begins(name, reader.table, goes_on);
+        }
         for (ring, state) in &self.rings {
             if same_table(&state.state(), &reader) {
                 self.reports.reader(ring, name, reader.place, goes_on);
@@ -332,14 +354,15 @@ impl World {
                 Answer::Configured(reader.state())
             }
             ReaderCall::Take => {
-                let slot = reader.state().place;
+                let RingState { place, table, .. } = reader.state();
                 let Some(trb) = reader.take(memory)? else {
-                    let foreign = self.reports.foreign_to(name);
-                    let doubt = |report| Answer::NoneInDoubt(slot, report);
-                    return Ok(foreign.map_or(Answer::None(slot), doubt));
+                    let doubt = self.reports.doubt(name, table);
+                    let in_doubt = |doubt| Answer::NoneInDoubt(place, doubt);
+                    return Ok(doubt.map_or(Answer::None(place), in_doubt));
                 };
+                self.reports.took(name, table);
                 self.reports.moved(name, reader.state().place);
-                return Ok(Answer::Taken(slot, trb));
+                return Ok(Answer::Taken(place, trb));
             }
             ReaderCall::State => return Ok(Answer::State(reader.state())),
             ReaderCall::FromState(_) => Answer::State(reader.state()),

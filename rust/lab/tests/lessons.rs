@@ -83,7 +83,7 @@ fn a_late_reader() {
             ("none, slot 0x90", ""),
             ("accepted, cycle 1", "now at 0x40 with cycle 0"),
             ("none, slot 0x50", "none: the slot"),
-            ("none, slot 0x50", "none, which says nothing here"),
+            ("none in doubt, slot 0x50", "taken 5 of 10 events"),
         ],
     );
 }

@@ -173,6 +173,8 @@ fn answers_that_cannot_be_written_are_1() {
         why.starts_with("lomvigast: the answer cannot be written: "),
         "{why}"
     );
+    // Open, but not to be written to.
+    assert_eq!(to("1< /dev/null").0, Some(1));
     // Both that read and write nothing.
     assert_eq!(to("> /dev/null"), (Some(0), String::new()));
     assert_eq!(to("<> /dev/null >&0"), (Some(0), String::new()));
@@ -282,28 +284,54 @@ fn an_image_with_the_drivers_place_tells_what_waits() {
     );
 }
 
-/// One TRB, a Link that toggles, before 128 MiB of zeros: once 8,388,607 lines.
-#[test]
-fn a_capture_of_millions_of_lines_is_cut() {
-    let folder = Path::new(env!("CARGO_TARGET_TMPDIR")).join("cut");
+/// A capture of one ring.
+fn captured(name: &str, trbs: &str, ring: &str) -> String {
+    let folder = Path::new(env!("CARGO_TARGET_TMPDIR")).join(name);
     std::fs::create_dir_all(&folder).expect("a folder for the test");
     let write = |name: &str, text: &str| std::fs::write(folder.join(name), text).expect("a file");
-    write("trbs.txt", "0x0 10000000 00000000 00000000 03180000");
-    write(
-        "rings.txt",
-        "transfer t first 0x0 cycle 1 dequeue 0x0 enqueue 0x0",
+    write("trbs.txt", trbs);
+    write("rings.txt", ring);
+    folder.to_str().expect("text").to_owned()
+}
+
+/// One TRB, a Link that toggles, before 128 MiB of zeros: once 8,388,607 lines.
+#[test]
+fn one_trb_before_zeros_is_few_lines() {
+    let trb = "0x0 10000000 00000000 00000000 03180000";
+    let ring = "transfer t first 0x0 cycle 1 dequeue 0x0 enqueue 0x0";
+    let said = run(&["show", &captured("zeros_behind", trb, ring)], b"");
+    let said = text(&said.stdout);
+    let end = said.lines().last().expect("an end");
+    assert_eq!(said.lines().count(), 3, "{said}");
+    assert!(
+        end.starts_with("  NOT LOOKED AT: at 0x10 stands a TRB of zeros"),
+        "{end}"
     );
-    let folder = folder.to_str().expect("text");
-    for (more, lines) in [(&[][..], 16_384), (&["--most", "5"], 5)] {
-        let said = run(&[&["show", folder], more].concat(), b"");
+}
+
+#[test]
+fn as_many_lines_as_the_user_says() {
+    let mut trbs = String::new();
+    for n in 0..20_000 {
+        trbs += &format!("{:#x} 00000000 00000000 00000000 01040000\n", 16 * n);
+    }
+    let ring = "transfer t first 0x0 cycle 1 dequeue 0x0 enqueue 0x4e200";
+    let folder = captured("long", &trbs, ring);
+    for (more, lines) in [
+        (&[][..], 16_384),
+        (&["--most", "5"], 5),
+        (&["--most", "20000"], 20_000),
+    ] {
+        let said = run(&[&["show", &folder], more].concat(), b"");
         let said = text(&said.stdout);
-        // Two headings, the TRBs, and the end.
-        assert_eq!(said.lines().count(), 2 + lines + 1);
+        let listed = said.lines().filter(|line| line.starts_with("  0x")).count();
         let end = said.lines().last().expect("an end");
-        let cut = format!("but {lines} TRBs are listed at most (--most N)");
-        assert!(
-            end.starts_with("  NOT LOOKED AT") && end.contains(&cut),
+        assert_eq!(listed, lines);
+        assert_eq!(
+            end.starts_with("  NOT LOOKED AT: the ring goes on"),
+            lines < 20_000,
             "{end}"
         );
+        assert_eq!(end.contains("--most N"), lines < 20_000, "{end}");
     }
 }

@@ -35,10 +35,18 @@ fn none_after_a_false_report_says_nothing() {
     let told = &told[told.len() - 7..];
     let warned: Vec<bool> = told.iter().map(warns).collect();
     assert_eq!(warned, [false, false, false, true, true, true, true]);
-    assert!(told[5..].iter().all(|answer| answer.brief().0 == "none"));
-    assert!(told[6]
-        .to_string()
-        .starts_with("none, which says nothing here"));
+    assert!(told[5..]
+        .iter()
+        .all(|answer| answer.brief().0 == "none in doubt"));
+    let words = told[6].to_string();
+    assert!(
+        words.starts_with("none in doubt: the slot at 0x40 is stale; WARNING: 0x80"),
+        "{words}"
+    );
+    assert!(
+        words.ends_with("this reader has taken 0 of 5 events accepted on its table"),
+        "{words}"
+    );
 
     // Also where the reader comes after the reports.
     let late = START.replace("reader d new\nreader d configure 0 2\n", "");
@@ -57,7 +65,7 @@ fn json_has_the_warning_in_a_field_of_its_own() {
     let lines: Vec<&str> = said.lines().rev().take(3).collect();
     let warned = |line: &str| line.contains(r#","warning":"WARNING: 0x90 was reported, where "#);
     assert!(
-        lines[0].contains(r#""answer":"none""#) && warned(lines[0]),
+        lines[0].contains(r#""answer":"none in doubt""#) && warned(lines[0]),
         "{said}"
     );
     assert!(
@@ -86,19 +94,68 @@ fn of_two_readers_each_has_its_own() {
         "{added}"
     );
     assert!(matches!(none, Answer::None(0x80)), "{none:?}");
-    assert!(
-        matches!(doubt, Answer::NoneInDoubt(0x80, 0x50)),
-        "{doubt:?}"
+    let Answer::NoneInDoubt(0x80, doubt) = doubt else {
+        panic!("{doubt:?}")
+    };
+    assert_eq!(
+        (doubt.report, doubt.accepted, doubt.taken),
+        (Some(0x50), 2, 2)
     );
 }
 
-/// A ring configured anew begins anew.
+const FRESH: &str = "memory 0x100\npoke 0 4000000000000000 02\npoke 16 8000000000000000 02\n";
+
+/// A ring configured anew on zeroed segments begins anew.
 #[test]
-fn a_ring_that_is_configured_again_is_not_in_doubt() {
-    let again = "ring r add 0x90 port=1\nring r configure 0 2\nreader d configure 0 2\n";
-    let fresh = "memory 0x100\npoke 0 4000000000000000 02\npoke 16 8000000000000000 02\n";
-    let script = format!("{START}{again}{fresh}reader d take\n");
+fn a_ring_that_is_configured_again_on_zeros_is_not_in_doubt() {
+    let again = "ring r configure 0 2\nreader d configure 0 2\nreader d take\n";
+    let script = format!("{START}ring r add 0x90 port=1\n{FRESH}{again}");
     assert!(matches!(answers(&script).last(), Some(Answer::None(0x40))));
+}
+
+/// Whatever makes a reader miss an accepted event, its "none" is in doubt: the lab counts both.
+#[test]
+fn none_is_plain_only_if_as_many_were_taken_as_accepted() {
+    let state = "ready=1 entries=2 place=0x40 remaining=2 cycle=1";
+    let adds = "ring r add 0x40 port=1\nring r add 0x40 port=2\nring r add 0x40 port=3\n\
+        ring r add 0x80 port=4\nring r add 0x80 port=5\n";
+    for meanwhile in [
+        String::new(),
+        format!("reader d from_state {state}\n"),
+        "ring r reset\n".to_owned(),
+        "ring r configure 0 2\n".to_owned(),
+        "reader d configure 0 2\n".to_owned(),
+        "ring r new\nring s new\nring s configure 0 2\n".to_owned(),
+    ] {
+        let told = answers(&format!("{START}{adds}{meanwhile}reader d take\n"));
+        let last = told.last().expect("an answer");
+        assert!(
+            matches!(last, Answer::NoneInDoubt(0x40, _)),
+            "{meanwhile}: {last}"
+        );
+    }
+    // Nobody reported falsely, but the event is gone, or stands where this reader does not look.
+    for meanwhile in [
+        "poke 0x4c 00\n",
+        FRESH,
+        "write_trb 0x40 00000000 00000000 00000000 00000000\n",
+        "reader d from_state ready=1 entries=2 place=0x50 remaining=1 cycle=1\n",
+        "reader d from_state ready=1 entries=2 place=0x40 remaining=2 cycle=0\n",
+    ] {
+        let told = answers(&format!(
+            "{START}ring r add 0x40 port=1\n{meanwhile}reader d take\n"
+        ));
+        let last = told.last().expect("an answer");
+        let Answer::NoneInDoubt(_, doubt) = last else {
+            panic!("{meanwhile}: {last}")
+        };
+        assert_eq!((doubt.accepted, doubt.taken), (1, 0), "{meanwhile}");
+    }
+    // A ring by its state, and no reader yet.
+    let by_state =
+        format!("ring r from_state {state}\n{adds}reader e new\nreader e configure 0 2\n");
+    let told = answers(&format!("{START}{by_state}reader e take\n"));
+    assert!(matches!(told.last(), Some(Answer::NoneInDoubt(0x40, _))));
 }
 
 /// Marsaglia's xorshift: the same numbers at every run.
@@ -135,7 +192,7 @@ fn beside_three_counters() {
                 reported = state.place;
             }
         }
-        let (mut accepted, mut taken, mut last, mut foreign) = (0, 0, 0, false);
+        let (mut accepted, mut taken, mut last, mut foreign) = (0_u64, 0, 0, false);
         for answer in answers(&script) {
             match &answer {
                 Answer::Accepted(accept) => {
@@ -147,11 +204,13 @@ fn beside_three_counters() {
                 }
                 Answer::Taken(..) => taken += 1,
                 Answer::None(_) => {
-                    assert!(!foreign && accepted == taken, "{script}");
+                    assert!(!foreign && accepted == taken as u64, "{script}");
                     plain += 1;
                 }
-                Answer::NoneInDoubt(..) => {
+                Answer::NoneInDoubt(_, doubt) => {
                     assert!(foreign, "{script}");
+                    let counted = (doubt.accepted, doubt.taken);
+                    assert_eq!(counted, (accepted, taken as u64), "{script}");
                     doubtful += 1;
                 }
                 _ => {}

@@ -197,14 +197,56 @@ fn what_the_driver_wrote_and_the_reader_never_came_to() {
 }
 
 #[test]
-fn a_dequeue_place_where_nobody_wrote() {
-    let capture = Capture::new(vec![0; 0x30], vec![linked(0, writes(0x10, 0x20, true))]);
+fn zeros_are_not_told_as_what_waits() {
+    let blank = |ring: Ring| {
+        let (words, json) = last_lines(&Capture::new(vec![0; 0x60], vec![ring]));
+        assert!(
+            words.starts_with("  NOT LOOKED AT: at 0x10 stands a TRB of zeros"),
+            "{words}"
+        );
+        assert!(!words.contains("pending"), "{words}");
+        assert!(json.contains(r#""end":"NOT LOOKED AT""#), "{json}");
+    };
+    blank(linked(0, writes(0x10, 0x20, true)));
+    // Fresh zeros at the place where the driver says it writes next.
+    let capture = Capture::new(vec![0; 0x60], vec![linked(0, writes(0x10, 0x10, false))]);
+    assert_eq!(reading(&capture).end, Ending::Blank);
+    assert_eq!(reading(&capture).trbs(), 0);
+    // An event ring with a reader of the second pass, on which nothing was ever written.
+    let mut memory = vec![0; 0x80];
+    (memory[0], memory[8]) = (0x40, 4);
+    let told = reading(&Capture::new(memory, vec![events(Some((0x40, false)))]));
+    assert_eq!((told.trbs(), told.end), (0, Ending::Blank));
+}
+
+/// The driver has written 0x0 and 0x10 and says so; the TRB at 0x20 is fresh all the same, a left-over of another ring.
+#[test]
+fn fresh_trbs_that_the_driver_did_not_write() {
+    let fresh = trb(NORMAL, true);
+    let memory = memory(0x40, &[(0, fresh), (0x10, fresh), (0x20, fresh)]);
+    let told = reading(&Capture::new(
+        memory,
+        vec![linked(0, writes(0x10, 0x20, true))],
+    ));
+    assert_eq!(
+        listed(&told),
+        [(0, Done), (0x10, Pending), (0x20, Stage::Beyond)]
+    );
+}
+
+/// A driver that holds back its first TRB, whose cycle bit is then the other one, while it writes the second.
+#[test]
+fn a_first_trb_that_is_held_back() {
+    let memory = memory(0x40, &[(0, trb(NORMAL, false)), (0x10, trb(NORMAL, true))]);
+    let capture = Capture::new(memory, vec![linked(0, writes(0, 0x20, true))]);
+    let told = reading(&capture);
+    assert_eq!(told.end, Ending::Unmet(0x20));
+    assert!(listed(&told).iter().all(|(_, stage)| *stage == Unknown));
     let (words, json) = last_lines(&capture);
     assert!(
-        words.starts_with("  UNKNOWN: at 0x10 stands a TRB of zeros"),
+        !words.contains("pending") && !json.contains("pending"),
         "{words}"
     );
-    assert!(json.contains(r#""end":"UNKNOWN""#), "{json}");
 }
 
 #[test]
@@ -212,12 +254,81 @@ fn a_first_slot_that_does_not_lead_to_the_driver() {
     let memory = memory(0x80, &[(0, trb(NORMAL, true)), (0x40, trb(NORMAL, true))]);
     let capture = Capture::new(memory, vec![linked(0, writes(0x40, 0x50, true))]);
     let told = reading(&capture);
-    assert_eq!(listed(&told), [(0, Stage::Astray), (0x40, Pending)]);
-    let heading = " history NOT LOOKED AT: from 0x00000000 with cycle state 1 the reader does not come to the driver's dequeue place";
+    assert_eq!(listed(&told), [(0, Unknown), (0x40, Pending)]);
+    let line = "  history NOT LOOKED AT from 0x10 on: the TRB there is of another pass";
     let shown = shown(&capture, false);
-    assert!(shown.iter().any(|line| line == heading), "{shown:?}");
+    assert!(shown.iter().any(|shown| shown == line), "{shown:?}");
     let (_, json) = last_lines(&capture);
     assert!(json.contains(r#""history":"NOT LOOKED AT""#), "{json}");
+}
+
+/// History that is cut, that an image does not hold, that a broken entry ends: what can be seen is shown, and the rest told.
+#[test]
+fn history_that_was_not_come_to_is_told() {
+    let told = |capture: &Capture, most| {
+        let reading = read(capture, &capture.rings[0], most).remove(0);
+        let unseen = reading.unseen.clone().map(|(_, why)| why);
+        let listed: Vec<u64> = listed(&reading).iter().map(|(place, _)| *place).collect();
+        (listed, unseen)
+    };
+    // The second pass of one segment: 0x60, 0x70, 0x40 are done, 0x50 waits.
+    let capture = Capture::new(second_pass(), vec![events(Some((0x50, false)))]);
+    assert_eq!(told(&capture, 4), (vec![0x60, 0x70, 0x40, 0x50], None));
+    assert_eq!(
+        told(&capture, 3),
+        (vec![0x60, 0x70, 0x50], Some(Ending::Cut))
+    );
+    assert_eq!(told(&capture, 1), (vec![0x50], Some(Ending::Cut)));
+    // Two segments, of which the second is not in the image, or broken.
+    let mut two = second_pass();
+    (two[0x10], two[0x18]) = (0x80, 1);
+    let ring = || Ring {
+        start: Start::Table(0, 2),
+        ..events(Some((0x50, false)))
+    };
+    let held = image("first_segment", &two, 0, ring());
+    assert_eq!(
+        told(&held, MOST),
+        (vec![0x60, 0x40, 0x50], Some(Ending::Missing(0x80)))
+    );
+    two[0x10] = 0x81;
+    let broken = Capture::new(two, vec![ring()]);
+    let (listed, why) = told(&broken, MOST);
+    assert_eq!(
+        (listed, why.map(|why| why.tone())),
+        (vec![0x60, 0x40, 0x50], Some(Tone::Refused))
+    );
+}
+
+/// The fresh event in the last slot before a broken entry cannot be taken, and is told of.
+#[test]
+fn a_fresh_event_that_cannot_be_taken() {
+    let mut memory = second_pass();
+    (memory[0x10], memory[0x18]) = (0x81, 1);
+    let ring = Ring {
+        start: Start::Table(0, 2),
+        ..events(Some((0x70, true)))
+    };
+    let (words, json) = last_lines(&Capture::new(memory, vec![ring]));
+    assert!(
+        words.contains("at 0x70 stands a fresh event that cannot be taken"),
+        "{words}"
+    );
+    assert!(words.contains("0 or more pending"), "{words}");
+    assert!(json.contains(r#""pending_at_least":0"#), "{json}");
+}
+
+/// Two entries with the same slots: which of them the driver is in nobody knows.
+#[test]
+fn a_driver_on_a_slot_of_two_entries() {
+    let mut memory = second_pass();
+    (memory[0x10], memory[0x18]) = (0x40, 4);
+    let ring = Ring {
+        start: Start::Table(0, 2),
+        ..events(Some((0x50, false)))
+    };
+    let told = reading(&Capture::new(memory, vec![ring]));
+    assert_eq!(told.end, Ending::NoSlot(0x50));
 }
 
 #[test]
@@ -236,11 +347,11 @@ fn a_link_into_the_middle_lists_each_trb_once() {
     assert_eq!(listed(&told), [(0x00, Pending), (0x10, Pending)]);
 }
 
-/// One Link that toggles, and from there on zeros, which are fresh for cycle state 0.
+/// Fresh TRBs without an end: fewer are listed.
 #[test]
 fn a_ring_of_a_million_lines_is_cut() {
-    let length = 16 << 20;
-    let memory = memory(length, &[(0, link(0x10, true, true))]);
+    let mut memory = trb(NORMAL, false).repeat(1 << 20);
+    memory[..16].copy_from_slice(&link(0x10, true, true));
     let capture = Capture::new(memory, vec![linked(0, writes(0, 0, true))]);
     let told = reading(&capture);
     assert_eq!(
@@ -278,6 +389,7 @@ fn rings_share_the_lines() {
         )
     };
     assert_eq!(shown(4), (4 + 2, 0));
+    // The second ring's history is not whole: a word in `history`.
     assert_eq!(shown(3), (3 + 2, 1));
     assert_eq!(shown(0), (2, 2));
 }
@@ -329,7 +441,7 @@ fn a_table_or_a_segment_that_an_image_does_not_hold() {
     let mut bytes = [0; 0x60];
     (bytes[0], bytes[8]) = (0x40, 2);
     let end = |bytes: &[u8]| reading(&image("segment", bytes, 0, events(Some((0x40, true))))).end;
-    assert_eq!(end(&bytes[..0x5f]), Ending::Missing(0x40));
+    assert_eq!(end(&bytes[..0x5f]), Ending::Missing(0x5f));
     assert_eq!(end(&bytes).tone(), Tone::Nothing);
     // No memory whatever would do.
     bytes[8] = 0;

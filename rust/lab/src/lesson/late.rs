@@ -82,8 +82,8 @@ fn misled() -> Scene {
         "ring events add 0x50 port=6\nring events add 0x50 port=7\nring events add 0x50 port=8\n\
          ring events add 0x90 port=9\nring events add 0x90 port=10\nreader driver take\nreader driver take",
         "Port 10 was written over port 6, which nobody had taken, with the other cycle bit; so the slot looks stale and the reader stops before it. \
-         Five events were accepted since the last take, and the answer is \"none\". The ring believes a report, as it cannot see the reader; the lab sees both, \
+         Five events were accepted since the last take, and the reader finds none. The ring believes a report, as it cannot see the reader; the lab sees both, \
          and warns. A report must be a place where the reader stands or stood.",
-        "says nothing: after a false report events are lost",
+        "not all was taken: after a false report events are lost",
     )
 }

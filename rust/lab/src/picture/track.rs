@@ -5,7 +5,7 @@ use crate::script::{Command, MemoryCall, ReaderCall, RingCall};
 use crate::segments::{of_table, Segment};
 use crate::world::{Answer, World};
 use lomvigast::event_ring::RingState;
-use lomvigast::{GuestMemory, Refusal};
+use lomvigast::GuestMemory;
 use std::collections::{BTreeMap, HashMap};
 
 #[derive(Debug, Clone, Copy, PartialEq, Eq)]
@@ -33,6 +33,8 @@ pub struct Tracked {
     pub segments: Vec<Option<Segment>>,
     /// The driver's last report.
     pub report: Option<u64>,
+    /// The last one that was a place where a reader had come to.
+    own: Option<u64>,
     uses: HashMap<u64, Use>,
 }
 
@@ -43,6 +45,7 @@ impl Tracked {
             entries: state.entries,
             segments: Vec::new(),
             report,
+            own: report,
             uses: HashMap::new(),
         };
         tracked.read_table(memory);
@@ -83,13 +86,13 @@ impl Tracked {
     fn reported(&mut self, place: u64) {
         let order: Vec<u64> = self.slots().collect();
         let at = |place| order.iter().position(|&slot| slot == place);
-        if let (Some(from), Some(to)) = (self.report.and_then(at), at(place)) {
+        if let (Some(from), Some(to)) = (self.own.and_then(at), at(place)) {
             let passed = (to + order.len() - from) % order.len();
             for slot in order.iter().cycle().skip(from).take(passed) {
                 self.turn(*slot, Use::Taken, Use::Reported);
             }
         }
-        self.report = Some(place);
+        (self.report, self.own) = (Some(place), Some(place));
     }
 
     fn turn(&mut self, slot: u64, from: Use, to: Use) {
@@ -149,14 +152,14 @@ impl Track {
         let Some(ring) = self.rings.get_mut(name) else {
             return;
         };
-        match answer {
-            Answer::Accepted(accepted) => {
-                ring.reported(report);
-                ring.uses.insert(accepted.slot, Use::Accepted);
+        // A refused add believes no report.
+        if let Answer::Accepted(accepted) = answer {
+            match accepted.foreign {
+                None => ring.reported(report),
+                // Nobody came there, so nothing that was taken is reported by it.
+                Some(_) => ring.report = Some(report),
             }
-            // The report was heard; there was no room all the same.
-            Answer::Refused(Refusal::Full, _) => ring.reported(report),
-            _ => {}
+            ring.uses.insert(accepted.slot, Use::Accepted);
         }
     }
 
@@ -221,11 +224,11 @@ mod tests {
     }
 
     #[test]
-    fn a_report_past_what_was_taken_reports_nothing_else() {
+    fn a_report_past_what_was_taken_reports_nothing() {
         let script = "ring r add 0x40 port=1\nring r add 0x40 port=2\nreader d take\nring r add 0x80 port=3\n";
         assert_eq!(
             uses(&format!("{START}{script}")),
-            "FFFF AFFF AAFF TAFF RAAF "
+            "FFFF AFFF AAFF TAFF TAAF "
         );
     }
 

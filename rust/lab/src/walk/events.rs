@@ -1,6 +1,6 @@
 //! Event rings.
 
-use super::{blank, past, Ending, Found, Part, Reading, Stage, Way};
+use super::{blank, past, Ending, Found, Part, Past, Reading, Stage, Way};
 use crate::capture::{Capture, Driver, Place};
 use crate::segments::{of_table, Segment};
 use crate::world::Answer;
@@ -18,21 +18,12 @@ pub fn read(
 ) -> Reading {
     let first = match configured(capture, table, entries) {
         Ok(first) => first,
-        Err(end) => {
-            return Reading {
-                supposed: None,
-                parts: Vec::new(),
-                end,
-                at: (table, true),
-            }
-        }
+        Err(end) => return Reading::new(Past::default(), Vec::new(), end, (table, true)),
     };
     let slots = Slots { capture, first };
     match driver {
-        Some(driver) if slots.reader(driver.place()).is_some() => {
-            let now = slots.way(driver.place(), None, most);
-            let past = slots.past(&now, most);
-            Reading::new(past, now, Stage::Pending)
+        Some(driver) if slots.entries_at(driver.dequeue).len() == 1 => {
+            slots.reading(driver.place(), Stage::Pending, most)
         }
         Some(driver) => slots.driverless(Ending::NoSlot(driver.dequeue), most),
         None => slots.driverless(Ending::NoDriver, most),
@@ -46,21 +37,25 @@ fn configured(capture: &Capture, table: u64, entries: u16) -> Result<EventReader
         Err(refusal @ (Refusal::TableBase | Refusal::TableEntries)) => {
             Err(Ending::Answer(Answer::Refused(refusal, None)))
         }
-        _ if !capture.knows(table, 16 * u64::from(entries)) => Err(Ending::Missing(table)),
-        Err(refusal) => Err(refused_entry(capture, table, refusal)),
-        Ok(()) => Ok(reader),
+        answer => match capture.missing(table, 16 * u64::from(entries)) {
+            Some(missing) => Err(Ending::Missing(missing)),
+            None => match answer {
+                Err(refusal) => Err(refused_entry(capture, table, refusal)),
+                Ok(()) => Ok(reader),
+            },
+        },
     }
 }
 
 /// The end at a table's entry that was refused. Where the image does not hold its segment nobody knows whether memory does.
 fn refused_entry(capture: &Capture, entry: u64, refusal: Refusal) -> Ending {
     let said = Segment::said(capture.memory(), entry);
-    match said.filter(|segment| segment.well_formed()) {
-        Some(segment) if !capture.knows(segment.base, segment.length()) => {
-            Ending::Missing(segment.base)
-        }
-        _ => Ending::Answer(Answer::Refused(refusal, None)),
-    }
+    let formed = said.filter(|segment| segment.well_formed());
+    let missing = formed.and_then(|segment| capture.missing(segment.base, segment.length()));
+    missing.map_or(
+        Ending::Answer(Answer::Refused(refusal, None)),
+        Ending::Missing,
+    )
 }
 
 struct Slots<'a> {
@@ -70,24 +65,40 @@ struct Slots<'a> {
 }
 
 impl Slots<'_> {
-    /// A reader at another slot.
-    fn reader(&self, (place, cycle): Place) -> Option<EventReader> {
-        let mut state = self.first.state();
+    /// The entries that a place is a slot of, and how many slots remain there.
+    fn entries_at(&self, place: u64) -> Vec<(u16, u32)> {
+        let state = self.first.state();
         let segments = of_table(self.capture.memory(), state.table, state.entries);
-        let (index, remaining) = (0..).zip(segments).find_map(|(index, segment)| {
+        let slots = (0..).zip(segments).filter_map(|(index, segment)| {
             let segment = segment?;
             Some((index, segment.size - segment.number(place)?))
-        })?;
-        (state.index, state.remaining) = (index, remaining);
+        });
+        slots.collect()
+    }
+
+    /// A reader at another slot; if two entries have it, in the first.
+    fn reader(&self, (place, cycle): Place) -> Option<EventReader> {
+        let mut state = self.first.state();
+        (state.index, state.remaining) = *self.entries_at(place).first()?;
         (state.place, state.cycle) = (place, cycle);
         Some(EventReader::from(state))
     }
 
-    fn past(&self, now: &Way, most: usize) -> Option<Part> {
+    /// From a place on, with what lies before it.
+    fn reading(&self, from: Place, stage: Stage, most: usize) -> Reading {
+        let now = self.way(from, None, most);
+        let (end, at) = (now.end.clone(), now.at);
         let left = most - now.found.len();
-        past(self.first.state().place, now, |from, until| {
-            self.way(from, Some(until), left)
-        })
+        let last = end.is_stale().then_some(at);
+        let first = self.first.state().place;
+        let mut past = past(first, last, from, left, |at, most| {
+            self.way(at, Some(from), most)
+        });
+        if stage == Stage::Unknown {
+            let parts = past.parts.into_iter();
+            past.parts = parts.map(|part| Part { stage, ..part }).collect();
+        }
+        Reading::new(past, vec![now.part(stage)], end, at)
     }
 
     /// All events that stand in the ring, if nobody knows where the driver does.
@@ -97,13 +108,11 @@ impl Slots<'_> {
         let trb = self.capture.memory().read_trb(first).ok();
         let written = trb.filter(|trb| !blank(trb));
         let cycle = written.is_none_or(|trb| cycle_bit(&trb));
-        let mut now = self.way((first, cycle), None, most);
-        let stage = Stage::Unknown;
-        let past = self.past(&now, most).map(|part| Part { stage, ..part });
-        if now.end.is_stale() {
-            now.end = end;
+        let mut reading = self.reading((first, cycle), Stage::Unknown, most);
+        if reading.end.is_stale() {
+            reading.end = end;
         }
-        Reading::new(past, now, stage)
+        reading
     }
 
     /// Takes events to the end or to a place. On the way to a place slots that were never written are passed over.
@@ -130,6 +139,7 @@ impl Slots<'_> {
             let (address, links) = (here.0, 0);
             match () {
                 () if until.is_some() && blank(&trb) => {}
+                () if blank(&trb) => break Ending::Blank,
                 () if found.len() == most => break Ending::Cut,
                 () => found.push(Found {
                     address,
@@ -149,8 +159,8 @@ impl Slots<'_> {
 
     fn take(&self, reader: &mut EventReader) -> Result<RawTrbBuffer, Ending> {
         let state = reader.state();
-        if !self.capture.knows(state.place, 16) {
-            return Err(Ending::Missing(state.place));
+        if let Some(missing) = self.capture.missing(state.place, 16) {
+            return Err(Ending::Missing(missing));
         }
         match reader.take(self.capture.memory()) {
             Ok(Some(trb)) => Ok(trb),

@@ -22,11 +22,11 @@ pub struct Found {
 pub enum Stage {
     /// The driver has seen them done: commands and transfers ended, events taken.
     Done,
-    /// They wait: commands and transfers for the device, events for the driver.
+    /// The driver has not seen them done: events wait for it, commands and transfers for the device or for their events.
     Pending,
-    /// They follow from the first slot on, but the driver's dequeue place was not come to.
-    Astray,
-    /// Nobody knows where the driver stands.
+    /// They are fresh, but stand behind the place up to which the driver says it wrote.
+    Beyond,
+    /// Nobody knows where the driver stands, or in which pass.
     Unknown,
 }
 
@@ -46,11 +46,11 @@ pub enum Ending {
     GoesRound,
     /// What stands at this address decides, and the image does not hold it.
     Missing(u64),
-    /// The driver's dequeue place is none of the table's slots.
+    /// The driver's dequeue place is none of the table's slots, or more than one.
     NoSlot(u64),
     /// Nobody said where the driver stands.
     NoDriver,
-    /// A fresh TRB of zeros, which no driver writes, where the cycle state or the place is not sure.
+    /// A fresh TRB of zeros, which no driver writes.
     Blank,
     /// The next TRB is stale, but the driver has written up to this place, to which the reader never came.
     Unmet(u64),
@@ -82,20 +82,28 @@ pub struct Reading {
     pub supposed: Option<bool>,
     /// In the order in which their TRBs were written.
     pub parts: Vec<Part>,
+    /// Where older TRBs may stand that were not come to, and why.
+    pub unseen: Option<(u64, Ending)>,
     pub end: Ending,
     /// Where the reader stands at the end.
     pub at: Place,
 }
 
 impl Reading {
-    fn new(past: Option<Part>, now: Way, stage: Stage) -> Self {
-        let (from, found) = (now.from, now.found);
-        let part = Part { stage, from, found };
+    fn new(past: Past, parts: Vec<Part>, end: Ending, at: Place) -> Self {
+        let parts = past.parts.into_iter().chain(parts);
+        // The last part stays, to say where the reader began.
+        let empty = |part: &Part| part.found.is_empty() && part.stage != Stage::Pending;
+        let mut parts: Vec<Part> = parts.collect();
+        let last = parts.pop();
+        parts.retain(|part| !empty(part));
+        parts.extend(last);
         Self {
             supposed: None,
-            parts: past.into_iter().chain([part]).collect(),
-            end: now.end,
-            at: now.at,
+            parts,
+            unseen: past.unseen,
+            end,
+            at,
         }
     }
 
@@ -121,12 +129,17 @@ pub fn read(capture: &Capture, ring: &Ring, most: usize) -> Vec<Reading> {
             vec![linked::driven(capture, first, driver, most)]
         }
         (Start::Linked(first, Some(cycle)), None) => {
-            vec![linked::driverless(capture, (first, cycle), false, most)]
+            vec![linked::driverless(capture, (first, cycle), most)]
         }
         (Start::Linked(first, None), None) => {
-            let one = linked::driverless(capture, (first, true), true, most);
+            let one = linked::driverless(capture, (first, true), most);
             let left = most - one.trbs();
-            vec![one, linked::driverless(capture, (first, false), true, left)]
+            let zero = linked::driverless(capture, (first, false), left);
+            let supposed = |cycle, reading| Reading {
+                supposed: Some(cycle),
+                ..reading
+            };
+            vec![supposed(true, one), supposed(false, zero)]
         }
     }
 }
@@ -140,28 +153,67 @@ struct Way {
     at: Place,
 }
 
-/// What lies before `now`: all that was written before it and not written over, as a reader of the pass before comes to it;
-/// else what leads there from the first slot on. `follow` goes from one place to another.
-fn past(first: u64, now: &Way, follow: impl Fn(Place, Place) -> Way) -> Option<Part> {
-    let reached = |way: &Way| way.end == Ending::Reached;
-    let (place, cycle) = now.at;
-    let stale = now.end.is_stale();
-    let round = stale.then(|| follow((place, !cycle), now.from));
-    let way = round
-        .filter(reached)
-        .unwrap_or_else(|| follow((first, now.from.1), now.from));
-    let stage = match reached(&way) {
-        true => Stage::Done,
-        false => Stage::Astray,
-    };
-    let listed: HashSet<u64> = now.found.iter().map(|found| found.address).collect();
-    let mut found = way.found;
-    found.retain(|found| !listed.contains(&found.address));
-    // On the way to the first one there may be slots that were never written.
-    let oldest = found.first().filter(|_| stage == Stage::Done);
-    let from = oldest.map_or(way.from, |trb| (trb.address, cycle_bit(&trb.trb)));
-    let part = Part { stage, from, found };
-    (stage == Stage::Astray || !part.found.is_empty()).then_some(part)
+impl Way {
+    fn part(self, stage: Stage) -> Part {
+        let (from, found) = (self.from, self.found);
+        Part { stage, from, found }
+    }
+}
+
+/// What lies before the driver's dequeue place.
+#[derive(Default)]
+struct Past {
+    parts: Vec<Part>,
+    unseen: Option<(u64, Ending)>,
+}
+
+/// All that was written before `until` and not written over, as a reader of the pass before comes to it from where the last TRB
+/// was written, if that is known. Where it does not come through, what leads there from the first slot on is shown too.
+fn past(
+    first: u64,
+    last: Option<Place>,
+    until: Place,
+    most: usize,
+    follow: impl Fn(Place, usize) -> Way,
+) -> Past {
+    let mut past = Past::default();
+    let round = last.map(|(place, cycle)| follow((place, !cycle), most));
+    let mut left = most;
+    if let Some(round) = round {
+        let end = round.end.clone();
+        left -= round.found.len();
+        // Where not even the first TRB was ever written there is no pass before.
+        let never = end == Ending::Blank && round.found.is_empty();
+        let reached = end == Ending::Reached;
+        past.unseen = (!reached && !never).then_some((round.at.0, end));
+        past.parts.push(done(round));
+        if reached {
+            return past;
+        }
+    }
+    let mut way = follow((first, until.1), left);
+    let older = past.parts.iter().flat_map(|part| &part.found);
+    let listed: HashSet<u64> = older.map(|found| found.address).collect();
+    way.found.retain(|found| !listed.contains(&found.address));
+    if way.end == Ending::Reached {
+        past.parts.push(done(way));
+    } else {
+        let unseen = past.unseen.take();
+        past.unseen = unseen.or_else(|| Some((way.at.0, way.end.clone())));
+        past.parts.push(way.part(Stage::Unknown));
+    }
+    past
+}
+
+/// A part of history. On the way to its first TRB there may be slots that were never written.
+fn done(way: Way) -> Part {
+    let first = way.found.first();
+    let from = first.map_or(way.from, |trb| (trb.address, cycle_bit(&trb.trb)));
+    let stage = Stage::Done;
+    Part {
+        from,
+        ..way.part(stage)
+    }
 }
 
 /// Whether nothing but a cycle bit is set: memory as it is before anybody writes a TRB there.
