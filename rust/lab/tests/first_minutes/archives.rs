@@ -118,8 +118,13 @@ fn a_crate_that_is_not_proved_is_told_and_no_archive_is_left_to_take() {
         refused.env("REFUSES", name).env("RT_JOBS", jobs);
         let (status, out, fault) = said(&mut refused);
         assert_eq!((status, out.as_str()), (Some(1), ""), "{fault}");
-        let words = format!("the stand-in's words on {name}\nlomvigast: {name} is not proved\n");
-        assert!(fault.contains(&words), "{fault}");
+        let lines = [
+            format!("the stand-in's words on {name}"),
+            format!("lomvigast: {name} is not proved"),
+        ];
+        for line in lines {
+            assert!(fault.lines().any(|said| said == line), "{fault}");
+        }
         // What stands on it is not begun.
         assert_eq!(
             fault.contains("proving trb ("),
@@ -137,22 +142,32 @@ fn cargo_alone_builds_once() {
     let (status, real, fault) = said(&mut script(target()));
     assert_eq!(status, Some(0), "{fault}");
     let target = empty("cargo_alone");
-    let mut cargo = Command::new("cargo");
-    cargo.args(["build", "--quiet", "--locked", "--offline"]);
-    cargo.args(["--package", "lomvigast", "--manifest-path"]);
-    cargo.arg(repository().join("rust/Cargo.toml"));
-    cargo.arg("--target-dir").arg(&target);
-    let mut cargo = with_stand_in(cargo);
-    cargo.env("ARCHIVES", real.trim_end());
+    let cargo = || {
+        let mut cargo = Command::new("cargo");
+        cargo.current_dir(repository().join("rust/lomvigast"));
+        cargo.args(["build", "--quiet", "--locked", "--offline"]);
+        cargo.arg("--target-dir").arg(&target);
+        let mut cargo = with_stand_in(cargo);
+        cargo.env("ARCHIVES", real.trim_end());
+        cargo
+    };
     let built = |command: &mut Command| {
         let (status, _, fault) = said(command);
         assert_eq!(status, Some(0), "{fault}");
         let data = fs::metadata(target.join("debug/liblomvigast.rlib")).expect("the crate");
         data.modified().expect("its time")
     };
-    let first = built(&mut cargo);
+    let first = built(&mut cargo());
     assert!(target.join("lomvigast/core").exists());
-    assert_eq!(built(&mut cargo), first);
+    assert_eq!(built(&mut cargo()), first);
+
+    // The archives are there for every profile and for --target.
+    let about = said(Command::new("cargo").arg("-vV")).1;
+    let host = about.lines().find_map(|line| line.strip_prefix("host: "));
+    let mut other = cargo();
+    other.args(["--release", "--target", host.expect("a host")]);
+    other.env("PATH", path_without(&["rt"]));
+    built(&mut other);
 }
 
 #[test]
