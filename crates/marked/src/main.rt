@@ -1,4 +1,5 @@
-// Runs the marked cases of document 01 and writes what comes out. The file stdout has what the document says.
+// Runs the marked cases of document 01 and writes what comes out, then the completion codes by name and number. The file stdout has what
+// the document and xHCI say.
 use codes::CompletionCode;
 use event_ring::EventRing;
 use libc::STDOUT_FILENO;
@@ -202,6 +203,108 @@ fn r3() {
     add(b"R3", &mut mem, ring, 0x140);
 }
 
+// The number that a code has in the core, behind its name in xHCI.
+fn code(name: &[u8], code: CompletionCode) {
+    text(name);
+    number(b" ", wide(code.number()));
+    text(b"\n");
+}
+
+// The codes of xHCI 1.2 table 6-90 in its order, twelve at a time. Into the exports and into Rust go numbers alone, so it is here that
+// names whose numbers are exchanged show.
+fn first_codes() {
+    code(b"Invalid", CompletionCode::Invalid);
+    code(b"Success", CompletionCode::Success);
+    code(b"Data Buffer Error", CompletionCode::DataBufferError);
+    code(
+        b"Babble Detected Error",
+        CompletionCode::BabbleDetectedError,
+    );
+    code(
+        b"USB Transaction Error",
+        CompletionCode::UsbTransactionError,
+    );
+    code(b"TRB Error", CompletionCode::TrbError);
+    code(b"Stall Error", CompletionCode::StallError);
+    code(b"Resource Error", CompletionCode::ResourceError);
+    code(b"Bandwidth Error", CompletionCode::BandwidthError);
+    code(
+        b"No Slots Available Error",
+        CompletionCode::NoSlotsAvailableError,
+    );
+    code(
+        b"Invalid Stream Type Error",
+        CompletionCode::InvalidStreamTypeError,
+    );
+    code(
+        b"Slot Not Enabled Error",
+        CompletionCode::SlotNotEnabledError,
+    );
+}
+
+fn middle_codes() {
+    code(
+        b"Endpoint Not Enabled Error",
+        CompletionCode::EndpointNotEnabledError,
+    );
+    code(b"Short Packet", CompletionCode::ShortPacket);
+    code(b"Ring Underrun", CompletionCode::RingUnderrun);
+    code(b"Ring Overrun", CompletionCode::RingOverrun);
+    code(
+        b"VF Event Ring Full Error",
+        CompletionCode::VfEventRingFullError,
+    );
+    code(b"Parameter Error", CompletionCode::ParameterError);
+    code(
+        b"Bandwidth Overrun Error",
+        CompletionCode::BandwidthOverrunError,
+    );
+    code(b"Context State Error", CompletionCode::ContextStateError);
+    code(
+        b"No Ping Response Error",
+        CompletionCode::NoPingResponseError,
+    );
+    code(b"Event Ring Full Error", CompletionCode::EventRingFullError);
+    code(
+        b"Incompatible Device Error",
+        CompletionCode::IncompatibleDeviceError,
+    );
+    code(b"Missed Service Error", CompletionCode::MissedServiceError);
+}
+
+fn last_codes() {
+    code(b"Command Ring Stopped", CompletionCode::CommandRingStopped);
+    code(b"Command Aborted", CompletionCode::CommandAborted);
+    code(b"Stopped", CompletionCode::Stopped);
+    code(
+        b"Stopped - Length Invalid",
+        CompletionCode::StoppedLengthInvalid,
+    );
+    code(
+        b"Stopped - Short Packet",
+        CompletionCode::StoppedShortedPacket,
+    );
+    code(
+        b"Max Exit Latency Too Large Error",
+        CompletionCode::MaxExitLatencyTooLargeError,
+    );
+    code(b"Isoch Buffer Overrun", CompletionCode::IsochBufferOverrun);
+    code(b"Event Lost Error", CompletionCode::EventLostError);
+    code(b"Undefined Error", CompletionCode::UndefinedError);
+    code(
+        b"Invalid Stream ID Error",
+        CompletionCode::InvalidStreamIdError,
+    );
+    code(
+        b"Secondary Bandwidth Error",
+        CompletionCode::SecondaryBandwidthError,
+    );
+    code(
+        b"Split Transaction Error",
+        CompletionCode::SplitTransactionError,
+    );
+}
+
 fn main() {
     events();
     parsers();
@@ -210,4 +313,7 @@ fn main() {
     r1();
     r2();
     r3();
+    first_codes();
+    middle_codes();
+    last_codes();
 }
