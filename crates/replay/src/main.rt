@@ -1,7 +1,8 @@
 // Runs the answers of usbvfiod's own code, recorded in the file stdin, against the core, and writes how many agree.
 //
 // A line is a letter for its kind, the input, a colon and the answer; the head of the file says the forms. The input as it was read and
-// the core's answer are put into the same text, and the two texts are compared: so a line that cannot be read differs.
+// the core's answer are put into the same text, and the two texts are compared: so a line that cannot be read differs. A small letter
+// begins a line whose answer is wrong on purpose: it must differ, so that a comparison which finds nothing is seen.
 mod answer;
 mod input;
 mod rings;
@@ -17,10 +18,12 @@ ghost use lib.ListN.{length};
 const SHOWN: u64 = 10;
 
 // How many lines of each kind agree, by the kind's letter modulo 32; and, at places that no letter has, how many cases agree, how many
-// lines agree that are none, how many lines were read, how many cases, and how many lines differ.
+// differ as they must, how many lines are counted nowhere else, how many were read, how many cases, and how many lines are not as told.
 type Counts = [u64; 32];
 
 const AGREE: u8 = 0;
+
+const WRONG: u8 = 27;
 
 const NO_CASE: u8 = 28;
 
@@ -28,7 +31,7 @@ const LINES: u8 = 29;
 
 const CASES: u8 = 30;
 
-const DIFFER: u8 = 31;
+const OTHERWISE: u8 = 31;
 
 // Room for the file, and for the memory of a line. The length is all that a caller knows of it.
 fn room() -> [u8; 0x10_0000]
@@ -45,6 +48,14 @@ fn count(counts: &mut Counts, place: u8) {
 fn show(label: &[u8], counts: &Counts, place: u8) {
     io::write_all(STDOUT_FILENO, label);
     io::print_decimal(STDOUT_FILENO, counts[(place % 32) as usize]);
+}
+
+// The letter of a line's kind. A small one begins a line that is wrong on purpose.
+fn kind(letter: u8) -> u8 {
+    match letter {
+        b'a'..=b'z' => letter - 32,
+        _ => letter,
+    }
 }
 
 // The forms of a line's input and answer (answer.rt).
@@ -90,28 +101,48 @@ fn run(letter: u8, given: &[u64; 16], memory: &mut [u8], ring: &mut CEventRing) 
     }
 }
 
-// Counts a line that differs, and shows it and the core's.
-fn differ(line: &[u8], text: &[u8], counts: &mut Counts) {
+// Counts a line that differs, or does not and must, and shows it and the core's.
+fn otherwise(line: &[u8], text: &[u8], counts: &mut Counts) {
     if counts[31] < SHOWN {
         show(b"line ", counts, LINES);
-        io::write_all(STDOUT_FILENO, b" differs: ");
+        io::write_all(STDOUT_FILENO, b" is not as told: ");
         io::write_all(STDOUT_FILENO, line);
         io::write_all(STDOUT_FILENO, b"; got ");
         io::write_all(STDOUT_FILENO, text);
         io::write_all(STDOUT_FILENO, b"\n");
     }
-    count(counts, DIFFER);
+    count(counts, OTHERWISE);
+}
+
+// Whether two lines are the same up to the colon.
+fn same_input(a: &[u8], b: &[u8]) -> bool {
+    let end_a = bytes::scan::find(a, 0, a.len(), b':');
+    let end_b = bytes::scan::find(b, 0, b.len(), b':');
+    check::same(&a[0..end_a], &b[0..end_b])
+}
+
+// Whether a line and the core's are as the letter tells: the same, or other in the answer and nowhere else.
+fn as_told(letter: u8, line: &[u8], text: &[u8]) -> bool {
+    let same = check::same(line, text);
+    if kind(letter) == letter {
+        return same;
+    }
+    same_input(line, text) & !same
 }
 
 // Compares a line, and counts it. M and P lines make what the cases are run on, and are none.
 fn compare(letter: u8, line: &[u8], given: &[u64; 16], answer: &[u64; 16], counts: &mut Counts) {
-    let forms = forms(letter);
+    let forms = forms(kind(letter));
     let mut text = [0u8; 256];
     let start = answer::byte(&mut text, 0, letter);
     let middle = answer::text(&mut text, start, forms.input, given);
     let end = answer::text(&mut text, middle, forms.answer, answer) % 257;
-    if (forms.input == 0) | !check::same(line, &text[0..end]) {
-        differ(line, &text[0..end], counts);
+    if (forms.input == 0) | !as_told(letter, line, &text[0..end]) {
+        otherwise(line, &text[0..end], counts);
+        return;
+    }
+    if kind(letter) != letter {
+        count(counts, WRONG);
         return;
     }
     let case = match letter {
@@ -142,10 +173,10 @@ fn next_line(
         size
     };
     if memory.len() < now {
-        differ(line, b"no memory", counts);
+        otherwise(line, b"no memory", counts);
         return size;
     }
-    let answer = run(letter, &given, &mut memory[0..now], ring);
+    let answer = run(kind(letter), &given, &mut memory[0..now], ring);
     compare(letter, line, &given, &answer, counts);
     now
 }
@@ -174,11 +205,13 @@ fn kinds(labels: &[u8], counts: &Counts) {
 }
 
 fn totals(counts: &mut Counts) {
-    counts[30] = std::num::wrapping_add_u64(counts[0], counts[31]);
+    let judged = std::num::wrapping_add_u64(counts[0], counts[27]);
+    counts[30] = std::num::wrapping_add_u64(judged, counts[31]);
     show(b"replay: ", counts, CASES);
     show(b" cases read, ", counts, AGREE);
-    show(b" agree, ", counts, DIFFER);
-    io::write_all(STDOUT_FILENO, b" differ\n");
+    show(b" agree, ", counts, WRONG);
+    show(b" differ as they must, ", counts, OTHERWISE);
+    io::write_all(STDOUT_FILENO, b" are otherwise\n");
 }
 
 fn main() {

@@ -5,6 +5,7 @@ mod parsers;
 mod rings;
 
 use crate::random::Random;
+use std::collections::BTreeMap;
 use std::io::{Result, Write};
 
 const SEED: u64 = 0x10b1_6a57;
@@ -35,6 +36,7 @@ const HEAD: &str = "\
 #     the event ring configured
 # A EVENT report: refusal index place remaining cycle sum
 #     an event added; sum is FNV-1a, of 64 bits, of the whole memory
+# A small letter begins a line that is wrong on purpose: one number of the original's answer has its last digit changed.
 ";
 
 /// Writes the sample, and answers how many cases it has.
@@ -50,26 +52,56 @@ pub fn record(out: &mut dyn Write) -> Result<u64> {
 #[derive(Default)]
 struct Sample {
     lines: Vec<String>,
+    /// How many lines there are of a kind, by its letter.
+    counts: BTreeMap<char, u64>,
 }
+
+/// Of so many lines of a kind one comes again with a wrong answer.
+const WRONG_ONCE_IN: u64 = 8;
 
 impl Sample {
     fn case(&mut self, letter: char, input: &str, answer: &str) {
-        self.lines.push(format!("{letter}{input}:{answer}"));
+        let before = self.count(letter);
+        self.line(letter, input, answer);
+        // An add that is accepted cannot come again.
+        let again = CASES.contains(letter) && (letter != 'A' || answer.starts_with(" 7 "));
+        if again && before.is_multiple_of(WRONG_ONCE_IN) {
+            let which = self.count(letter.to_ascii_lowercase());
+            self.wrong(letter, input, answer, which as usize);
+        }
     }
 
-    /// How many lines there are of a kind.
+    /// A line with one number of its answer changed in its last digit: of the n numbers the one of `which` modulo n.
+    fn wrong(&mut self, letter: char, input: &str, answer: &str, which: usize) {
+        let small = letter.to_ascii_lowercase();
+        let which = which % answer.split(' ').skip(1).count();
+        let changed = |(n, word): (usize, &str)| {
+            let (rest, last) = word.split_at(word.len() - 1);
+            let digit = u8::from_str_radix(last, 16).expect("an answer has hexadecimal numbers");
+            format!(" {rest}{:x}", digit ^ u8::from(n == which))
+        };
+        let answer: String = answer.split(' ').skip(1).enumerate().map(changed).collect();
+        self.line(small, input, &answer);
+    }
+
+    fn line(&mut self, letter: char, input: &str, answer: &str) {
+        self.lines.push(format!("{letter}{input}:{answer}"));
+        *self.counts.entry(letter).or_default() += 1;
+    }
+
     fn count(&self, letter: char) -> u64 {
-        let of_kind = |line: &&String| line.starts_with(letter);
-        self.lines.iter().filter(of_kind).count() as u64
+        self.counts.get(&letter).copied().unwrap_or(0)
     }
 
     fn write(&self, out: &mut dyn Write) -> Result<u64> {
         let count = |letter| format!(" {letter} {}", self.count(letter));
         let counts: String = CASES.chars().map(count).collect();
         let cases = CASES.chars().map(|letter| self.count(letter)).sum();
-        write!(
+        let small = CASES.to_ascii_lowercase();
+        let wrong: u64 = small.chars().map(|letter| self.count(letter)).sum();
+        writeln!(
             out,
-            "{HEAD}#\n# Seed {SEED:#x}. Cases, in decimal:{counts}; in all {cases}.\n"
+            "{HEAD}#\n# Seed {SEED:#x}. Cases, in decimal:{counts}; in all {cases}, and {wrong} wrong on purpose."
         )?;
         for line in &self.lines {
             writeln!(out, "{line}")?;
@@ -106,6 +138,36 @@ mod tests {
         assert!(of_replay("stdin").into_bytes() == now, "record it anew");
     }
 
+    /// Which numbers of an answer two lines have otherwise, if their inputs are the same.
+    fn parted(line: &str, wrong: &str) -> Option<Vec<usize>> {
+        let (input, answer) = line[1..].split_once(':')?;
+        let (same, changed) = wrong[1..].split_once(':')?;
+        let numbers = answer.split(' ').skip(1).zip(changed.split(' ').skip(1));
+        let parted = numbers.enumerate().filter(|(_, (a, b))| a != b);
+        (input == same).then(|| parted.map(|(n, _)| n).collect())
+    }
+
+    /// The wrong lines of a kind behind their right one: each has one number otherwise, and each number has its line.
+    #[test]
+    fn every_number_of_an_answer_is_wrong_somewhere() {
+        let recorded = of_replay("stdin");
+        let lines: Vec<&str> = recorded.lines().collect();
+        // As many numbers as the head of the file names for each kind.
+        let kinds = [("c", 9), ("t", 14), ("l", 5), ("e", 2), ("s", 2), ("n", 9)];
+        for (letter, numbers) in kinds.into_iter().chain([("g", 5), ("a", 6)]) {
+            let mut wrong: Vec<usize> = Vec::new();
+            for pair in lines.windows(2).filter(|pair| pair[1].starts_with(letter)) {
+                if let Some(parted) = parted(pair[0], pair[1]) {
+                    assert_eq!(parted.len(), 1, "{}", pair[1]);
+                    wrong.extend(parted);
+                }
+            }
+            wrong.sort_unstable();
+            wrong.dedup();
+            assert_eq!(wrong, Vec::from_iter(0..numbers), "{letter}");
+        }
+    }
+
     /// What crates/replay must write is counted here and not copied from what it writes.
     #[test]
     fn the_expected_counts_are_those_of_the_recorded_file() {
@@ -119,7 +181,11 @@ mod tests {
         let expected = of_replay("stdout");
         let mut lines: Vec<&str> = expected.lines().collect();
         let cases: usize = CASES.chars().map(count).sum();
-        let total = format!("replay: {cases} cases read, {cases} agree, 0 differ");
+        let wrong: usize = CASES.to_ascii_lowercase().chars().map(count).sum();
+        let total = format!(
+            "replay: {} cases read, {cases} agree, {wrong} differ as they must, 0 are otherwise",
+            cases + wrong
+        );
         assert_eq!(lines.pop(), Some(total.as_str()));
         let letters: Vec<char> = lines
             .iter()

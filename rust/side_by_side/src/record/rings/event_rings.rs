@@ -74,6 +74,19 @@ impl<'a> Ring<'a> {
 
     /// Adds an event, and answers whether it was accepted.
     fn add(&mut self, event: Event, report: u64) -> bool {
+        let (input, answer, accepted) = self.added(event, report);
+        self.sample.case('A', &input, &answer);
+        accepted
+    }
+
+    /// Adds an event whose answer is recorded with one of its numbers wrong.
+    fn add_wrong(&mut self, event: Event, report: u64, which: usize) {
+        let (input, answer, _) = self.added(event, report);
+        self.sample.wrong('A', &input, &answer, which);
+    }
+
+    /// Input and answer as they stand in a line, and whether the event was accepted.
+    fn added(&mut self, event: Event, report: u64) -> (String, String, bool) {
         let Event { text, event } = event;
         let (ring, entries, table) = (&mut self.ring, self.entries, self.table);
         let added = catch_unwind(AssertUnwindSafe(|| {
@@ -87,8 +100,7 @@ impl<'a> Ring<'a> {
         assert_eq!(self.bus.outside(), 0);
         let sum = numbers([checksum(&self.bus.bytes())]);
         let answer = numbers([refusal]) + &state(self.ring.state()) + &sum;
-        self.sample.case('A', &(text + &numbers([report])), &answer);
-        added.is_ok()
+        (text + &numbers([report]), answer, added.is_ok())
     }
 }
 
@@ -133,7 +145,8 @@ fn checksum(bytes: &[u8]) -> u64 {
     bytes.iter().fold(0xcbf2_9ce4_8422_2325, step)
 }
 
-/// Fills the ring, then reports slot after slot, two times round, filling it again at each; last, reports at random.
+/// Fills the ring, then reports slot after slot, two times round, filling it again at each; then reports at random; last, adds that are
+/// accepted and whose answer is wrong, in each of its numbers.
 fn around(ring: &mut Ring, random: &mut Random) {
     let slots = ring.slots.clone();
     let in_turn = slots.iter().cycle().take(2 * slots.len() + 1);
@@ -144,6 +157,9 @@ fn around(ring: &mut Ring, random: &mut Random) {
         let report = slots[random.below(slots.len() as u64) as usize];
         // No slot is at 0, so that such a report never makes the ring full.
         ring.add(events::any(random), if n % 4 == 0 { 0 } else { report });
+    }
+    for which in 0..6 {
+        ring.add_wrong(events::port(which as u8), 0, which);
     }
 }
 
