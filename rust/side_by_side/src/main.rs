@@ -1,12 +1,14 @@
 //! Runs the original and the port on the same inputs and holds everything beside each other; then the port's ring and reader
-//! beside a plain list.
+//! beside a plain list; then all of its rings beside document 01's words.
 
 // Some of what they can do only the comparison asks for.
 #![cfg_attr(not(at_hand), allow(dead_code))]
 
 mod bench;
 mod inputs;
+mod links;
 mod random;
+mod reference;
 mod schedules;
 mod tally;
 
@@ -16,6 +18,7 @@ mod compare;
 mod record;
 
 use random::Random;
+use reference::Beside;
 use std::error::Error;
 use std::process::ExitCode;
 use std::time::{Duration, Instant, SystemTime, UNIX_EPOCH};
@@ -68,10 +71,12 @@ mod compare {
     }
 }
 
-/// What a run counts: the kinds held beside the original, and the port's ring and reader beside a list.
+/// What a run counts: the kinds held beside the original, the port's ring and reader beside a list, and the kinds held beside
+/// document 01.
 struct Counts {
     original: Vec<Tally>,
     list: Tally,
+    document: [Beside; 4],
 }
 
 impl Counts {
@@ -92,6 +97,10 @@ impl Counts {
     fn round(&mut self, random: &mut Random) {
         self.join(compare::at_random(random));
         self.list.join(schedules::any(random, 400, 300));
+        let more = reference::any(random, 20_000);
+        for (known, more) in self.document.iter_mut().zip(more) {
+            known.join(more);
+        }
     }
 
     fn compared(&self) -> u64 {
@@ -99,16 +108,21 @@ impl Counts {
     }
 
     fn differing(&self) -> u64 {
-        self.original.iter().map(Tally::differing).sum::<u64>() + self.list.differing()
+        let document = self.document.iter().map(|beside| &beside.tally);
+        let tallies = self.original.iter().chain([&self.list]).chain(document);
+        tallies.map(Tally::differing).sum()
     }
 
     fn print(&self) {
         self.original.iter().for_each(Tally::print);
         self.list.print();
+        self.document.iter().for_each(Beside::print);
+        let document = self.document.iter().map(|beside| beside.tally.compared());
         println!(
-            "side by side: {} compared with the original, {} with a list, {} differ",
+            "side by side: {} compared with the original, {} with a list, {} with document 01, {} differ",
             self.compared(),
             self.list.compared(),
+            document.sum::<u64>(),
             self.differing()
         );
     }
@@ -126,6 +140,7 @@ fn run(options: &Options) -> Counts {
     let mut counts = Counts {
         original: Vec::new(),
         list: schedules::any(&mut random, 0, 0),
+        document: reference::any(&mut random, 0),
     };
     counts.join(compare::exhaustive(&mut random));
     let (start, mut rounds, mut told) = (Instant::now(), 0, 0);

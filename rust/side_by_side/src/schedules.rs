@@ -35,7 +35,7 @@ impl List {
 }
 
 /// Document 01's limits of an event that can be written.
-fn fits(event: &EventTrb) -> bool {
+pub fn fits(event: &EventTrb) -> bool {
     match event {
         EventTrb::Transfer(t) => t.trb_transfer_length < 1 << 24,
         EventTrb::CommandCompletion(t) => {

@@ -3,6 +3,7 @@
 use super::books;
 use crate::inputs::{any_event, Table};
 use crate::random::Random;
+use crate::reference;
 use crate::tally::Tally;
 use lomvigast::event_ring::{EventRing, RingState};
 use lomvigast::trb::EventTrb;
@@ -189,32 +190,6 @@ fn step(pair: &mut Pair, tally: &mut Tally, random: &mut Random, slots: &[u64]) 
     }
 }
 
-/// Document 01's judgement of a table, in the order of its refusals.
-fn judged(bytes: &[u8], base: u64, entries: u16) -> Result<(), Refusal> {
-    let number = |at: usize, width: usize| {
-        let part = &bytes[at..at + width];
-        part.iter()
-            .rev()
-            .fold(0, |n, byte| n << 8 | u64::from(*byte))
-    };
-    let length = bytes.len() as u64;
-    if base % 64 != 0 {
-        return Err(Refusal::TableBase);
-    }
-    if entries == 0 || entries > 16 {
-        return Err(Refusal::TableEntries);
-    }
-    if base > length || length - base < 16 * u64::from(entries) {
-        return Err(Refusal::Outside);
-    }
-    let (first, size) = (number(base as usize, 8), number(base as usize + 8, 4));
-    let inside = first <= length && 16 * size <= length - first;
-    if first % 64 != 0 || size == 0 || size > 4096 || !inside {
-        return Err(Refusal::Segment);
-    }
-    Ok(())
-}
-
 /// Configure with what is refused: where the original panics, and where it goes on.
 pub fn refused_tables(random: &mut Random, count: u64) -> Tally {
     let mut tally = Tally::new("configure, refused or not");
@@ -246,17 +221,17 @@ fn spoil(table: &mut Table, random: &mut Random) {
 fn hold_table(tally: &mut Tally, bytes: &[u8], base: u64, entries: u16) {
     let mut port = EventRing::new();
     let ours = port.configure(GuestMemory::new(bytes), base, entries);
-    let expected = judged(bytes, base, entries);
+    let expected = reference::judged(bytes, base, entries);
     let input = (bytes, base, entries);
-    tally.hold(&input, expected, ours);
+    tally.hold(&input, expected, reference::number_of(ours));
     let bus = Memory::new(bytes.to_vec());
     let mut original = Original::new(bus.clone());
     let taken = books::unless_panicked(|| original.configure(base, entries)).is_some();
     match expected {
-        Ok(()) | Err(Refusal::TableBase) => tally.hold(&input, taken, ours.is_ok()),
-        Err(Refusal::TableEntries) if entries == 0 => tally.hold(&input, taken, false),
-        Err(Refusal::TableEntries) => tally.outside("a table of more than 16 entries: 3 here"),
-        Err(Refusal::Outside) => tally.outside("a table that is not in memory: 1 here"),
-        Err(_) => tally.outside("a first segment that is not allowed: 5 here"),
+        0 | 2 => tally.hold(&input, taken, ours.is_ok()),
+        3 if entries == 0 => tally.hold(&input, taken, false),
+        3 => tally.outside("a table of more than 16 entries: 3 here"),
+        1 => tally.outside("a table that is not in memory: 1 here"),
+        _ => tally.outside("a first segment that is not allowed: 5 here"),
     }
 }

@@ -1,0 +1,134 @@
+//! Memories, states, events and reports in which no refusal, one or several are met.
+
+use super::rules::slot_after;
+use crate::inputs::any_event;
+use crate::random::Random;
+use lomvigast::event_ring::RingState;
+use lomvigast::trb::EventTrb;
+
+/// What a call is given: a ring or reader in some state.
+#[derive(Debug, Clone)]
+pub struct Case {
+    pub bytes: Vec<u8>,
+    pub state: RingState,
+    pub event: EventTrb,
+    pub report: u64,
+}
+
+impl Case {
+    pub fn any(random: &mut Random) -> Self {
+        let table = 64 * random.below(3);
+        let most = random.pick(&[2, 4, 16]);
+        let entries = random.between(1, most) as u16;
+        let bytes = memory(random, table, entries);
+        let mut state = RingState::default();
+        state.ready = true;
+        state.table = table;
+        state.entries = entries;
+        state.index = random.below(entries.into()) as u16;
+        state.place = 16 * random.below(bytes.len() as u64 / 16);
+        state.remaining = random.pick(&[1, 1, 1, 2, 3, 4096]);
+        state.cycle = random.once_in(2);
+        spoil(&mut state, random, bytes.len() as u64);
+        let event = any_event(random);
+        let report = report(random, &bytes, &state);
+        Self {
+            bytes,
+            state,
+            event,
+            report,
+        }
+    }
+
+    /// What a configure may be given beside the memory: as the state has it, or another table.
+    pub fn table(&self, random: &mut Random) -> (u64, u16) {
+        let near = (self.bytes.len() as u64).saturating_sub(16 * random.below(18)) & !63;
+        let table = random.pick(&[self.state.table, self.state.table, near]);
+        (table, self.state.entries)
+    }
+}
+
+/// One in so many memories is long enough for a segment of more than 4096 slots.
+const LONG: u64 = 100;
+
+/// Any bytes, in them a table. The memory may end in the table or in a slot.
+fn memory(random: &mut Random, table: u64, entries: u16) -> Vec<u8> {
+    let mut length = random.pick(&[0x100, 0x140, 0x1f8, 0x200, 0x300]);
+    if random.once_in(LONG) {
+        length = 0x1_0100;
+    }
+    let mut bytes = vec![0; length];
+    for piece in bytes.chunks_mut(8) {
+        let filling = random.next().to_le_bytes();
+        piece.copy_from_slice(&filling[..piece.len()]);
+    }
+    for raw in bytes[table as usize..]
+        .chunks_exact_mut(16)
+        .take(entries.into())
+    {
+        let (base, size) = entry(random, length as u64);
+        raw[..8].copy_from_slice(&base.to_le_bytes());
+        raw[8..12].copy_from_slice(&size.to_le_bytes());
+    }
+    bytes
+}
+
+/// Base and size of an entry, two times in three good.
+fn entry(random: &mut Random, length: u64) -> (u64, u32) {
+    let base = 64 * random.below(length / 64);
+    let size = random.between(1, 4) as u32;
+    let to_the_end = (length - base) as u32 / 16;
+    if length > 0x1_0000 && random.once_in(2) {
+        return (0, random.pick(&[4096, 4097]));
+    }
+    match random.below(12) {
+        0 => (base + random.pick(&[1, 8, 16, 32, 48, 63]), size),
+        1 => (base, random.pick(&[0, 4097, u32::MAX])),
+        2 => (random.pick(&[length & !63, u64::MAX - 63]), size),
+        3 => (base, to_the_end + random.below(2) as u32),
+        _ => (base, size),
+    }
+}
+
+/// Each field may be at or beyond its limits, one time in so many.
+const SPOILT: u64 = 12;
+
+fn spoil(state: &mut RingState, random: &mut Random, length: u64) {
+    let mut now = || random.once_in(SPOILT);
+    let [ready, table, far, entries, index, place, away, remaining] = [(); 8].map(|()| now());
+    state.ready = !ready;
+    if far {
+        state.table = random.pick(&[length & !63, u64::MAX - 63, u64::MAX - 127]);
+    }
+    if table {
+        state.table |= random.pick(&[1, 8, 16, 32, 48]);
+    }
+    if entries {
+        state.entries = random.pick(&[0, 1, 16, 17, u16::MAX]);
+    }
+    if index {
+        let count = state.entries;
+        let past = [count.wrapping_sub(1), count, count.wrapping_add(1)];
+        state.index = random.pick(&past);
+    }
+    if away {
+        state.place = random.pick(&[length & !15, u64::MAX - 15, u64::MAX - 31]);
+    }
+    if place {
+        state.place |= random.pick(&[1, 4, 8, 12]);
+    }
+    if remaining {
+        state.remaining = random.pick(&[0, 4097, u32::MAX]);
+    }
+}
+
+/// A report: the slot that makes the ring full, where the ring stands, somewhere, and beside each of these.
+fn report(random: &mut Random, bytes: &[u8], state: &RingState) -> u64 {
+    let full = slot_after(bytes, state).unwrap_or(0);
+    let somewhere = 16 * random.below(0x40);
+    let report = random.pick(&[full, full, state.place, somewhere]);
+    if random.once_in(8) {
+        return report | random.pick(&[1, 4, 8]);
+    }
+    report
+}
