@@ -14,18 +14,26 @@ pub struct Table {
 }
 
 impl Table {
-    /// A table at `base`, and behind it segments of these sizes, the first at the end where `backwards` is set.
-    pub fn new(base: u64, sizes: &[u32], backwards: bool) -> Self {
-        let mut next = (base + 16 * sizes.len() as u64).next_multiple_of(64);
-        let mut place = |size: &u32| {
-            let segment = (next, *size);
-            next = (next + 16 * u64::from(*size)).next_multiple_of(64);
-            segment
+    /// A table and segments of these sizes one behind the other from `start` on, the first at the end where `backwards` is set.
+    /// So many of the segments stand before the table.
+    pub fn new(start: u64, sizes: &[u32], backwards: bool, before: usize) -> Self {
+        let mut next = start;
+        let mut place = |slots: u64| {
+            let base = next;
+            next = (base + 16 * slots).next_multiple_of(64);
+            base
         };
-        let mut segments: Vec<_> = sizes.iter().map(&mut place).collect();
+        let mut segments: Vec<(u64, u32)> = sizes.iter().map(|size| (0, *size)).collect();
+        let mut order: Vec<usize> = (0..sizes.len()).collect();
         if backwards {
-            segments = sizes.iter().rev().map(&mut place).rev().collect();
+            order.reverse();
         }
+        let (first, rest) = order.split_at(before);
+        let mut put = |n: &usize| segments[*n].0 = place(sizes[*n].into());
+        first.iter().for_each(&mut put);
+        let base = place(sizes.len() as u64);
+        let mut put = |n: &usize| segments[*n].0 = place(sizes[*n].into());
+        rest.iter().for_each(&mut put);
         Self {
             base,
             segments,
@@ -33,12 +41,57 @@ impl Table {
         }
     }
 
-    /// Between one and `most` segments of one to `longest` slots, somewhere.
+    /// Between one and `most` segments of one to `longest` slots, before and behind the table.
     pub fn any(random: &mut Random, most: u64, longest: u64) -> Self {
         let sizes: Vec<u32> = (0..random.between(1, most))
             .map(|_| random.between(1, longest) as u32)
             .collect();
-        Self::new(64 * random.below(4), &sizes, random.once_in(2))
+        let before = random.below(sizes.len() as u64 + 1) as usize;
+        Self::new(64 * random.below(4), &sizes, random.once_in(2), before)
+    }
+
+    /// A table somewhere in a memory of 32 times 64 bytes, with up to six segments anywhere beside it.
+    pub fn anywhere(random: &mut Random) -> Self {
+        let mut table = Self {
+            base: 64 * random.below(31),
+            segments: vec![(0, 0); random.between(1, 6) as usize],
+            length: 64 * 32,
+        };
+        table.scatter(random);
+        table
+    }
+
+    /// Other segments for the same entries: each in memory and off the table, and over others or not.
+    pub fn scatter(&mut self, random: &mut Random) {
+        let length = self.length as u64;
+        let own = self.base..self.base + 16 * u64::from(self.entries());
+        for segment in &mut self.segments {
+            *segment = loop {
+                let (base, size) = (64 * random.below(length / 64), random.between(1, 6));
+                let end = base + 16 * size;
+                if end <= length && (end <= own.start || own.end <= base) {
+                    break (base, size as u32);
+                }
+            };
+        }
+    }
+
+    /// How table and segments stand to each other, where it is not the table first and the segments apart.
+    pub fn kinds(&self) -> Vec<&'static str> {
+        let before = self.segments.iter().filter(|(base, _)| *base < self.base);
+        let before = before.count();
+        let mut kinds = Vec::new();
+        if before == self.segments.len() {
+            kinds.push("tables behind their segments");
+        } else if before != 0 {
+            kinds.push("tables between their segments");
+        }
+        let mut slots = self.slots();
+        slots.sort_unstable();
+        if slots.windows(2).any(|pair| pair[0] == pair[1]) {
+            kinds.push("tables with segments that overlap");
+        }
+        kinds
     }
 
     pub fn entries(&self) -> u16 {

@@ -129,6 +129,7 @@ pub fn any(random: &mut Random, worlds: u64, steps: u64) -> Tally {
         let (most, longest) = random.pick(&[(3, 3), (16, 4), (2, 40)]);
         let table = Table::any(random, most, longest);
         let eager = random.below(6);
+        table.kinds().into_iter().for_each(|kind| tally.among(kind));
         match World::new(table.clone()) {
             Ok(mut world) => (0..steps).for_each(|_| world.step(&mut tally, random, eager)),
             Err(refusal) => tally.hold(&table, Ok(()), Err(refusal)),

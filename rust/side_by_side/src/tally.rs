@@ -12,6 +12,8 @@ pub struct Tally {
     differing: u64,
     /// Inputs outside document 01's domain, by what puts them there.
     outside: BTreeMap<&'static str, u64>,
+    /// What was among the inputs.
+    among: BTreeMap<&'static str, u64>,
 }
 
 impl Tally {
@@ -21,6 +23,7 @@ impl Tally {
             compared: 0,
             differing: 0,
             outside: BTreeMap::new(),
+            among: BTreeMap::new(),
         }
     }
 
@@ -47,12 +50,20 @@ impl Tally {
         *self.outside.entry(why).or_default() += 1;
     }
 
+    /// An input of a kind that is to be counted.
+    pub fn among(&mut self, what: &'static str) {
+        *self.among.entry(what).or_default() += 1;
+    }
+
     /// Takes up the counts of another tally of the same kind.
     pub fn join(&mut self, other: Self) {
         self.compared += other.compared;
         self.differing += other.differing;
         for (why, count) in other.outside {
             *self.outside.entry(why).or_default() += count;
+        }
+        for (what, count) in other.among {
+            *self.among.entry(what).or_default() += count;
         }
     }
 
@@ -75,6 +86,9 @@ impl Tally {
         );
         for (why, count) in &self.outside {
             println!("{:34} {count:>10} outside the domain: {why}", "");
+        }
+        for (what, count) in &self.among {
+            println!("{:34} {count:>10} {what}", "");
         }
     }
 }

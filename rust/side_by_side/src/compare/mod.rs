@@ -37,6 +37,7 @@ pub fn at_random(random: &mut Random) -> Vec<Tally> {
         rings::any(random, 200, 4, 4, 300),
         rings::any(random, 20, 16, 32, 2_000),
         rings::any(random, 1, 16, 4096, 20_000),
+        rings::anywhere(random, 100, 200),
         rings::refused_tables(random, 5_000),
     ]);
     tallies

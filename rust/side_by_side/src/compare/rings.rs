@@ -94,6 +94,16 @@ impl Pair {
         tally.hold(&(&self.table, &self.port), (true, 0), same);
     }
 
+    /// Other entries in the same table, for both.
+    fn rewrite(&mut self, tally: &mut Tally, random: &mut Random) {
+        self.table.scatter(random);
+        self.table.write(&mut self.bytes);
+        self.bus.fill(&self.bytes);
+        tally.among("tables rewritten between adds");
+        let kinds = self.table.kinds();
+        kinds.into_iter().for_each(|kind| tally.among(kind));
+    }
+
     fn reset(&mut self, tally: &mut Tally) {
         self.original.reset();
         self.port.reset();
@@ -111,7 +121,8 @@ pub fn every_sequence(length: usize) -> Tally {
     let mut tally = Tally::new("adds, every short sequence");
     for number in 0..39 {
         let sizes = sizes(number);
-        let mut pair = Pair::new(&mut tally, Table::new(0x40, &sizes, number % 2 == 1), None);
+        let table = Table::new(0x40, &sizes, number % 2 == 1, 0);
+        let mut pair = Pair::new(&mut tally, table, None);
         let slots = pair.table.slots();
         walk(&mut pair, &mut tally, &slots, 0, length);
     }
@@ -160,12 +171,30 @@ pub fn any(random: &mut Random, rings: u64, most: u64, longest: u64, adds: u64) 
     let mut tally = Tally::new("adds, random tables");
     for _ in 0..rings {
         let table = Table::any(random, most, longest);
+        table.kinds().into_iter().for_each(|kind| tally.among(kind));
         let mut pair = Pair::new(&mut tally, table, Some(random));
         let slots = pair.table.slots();
         for _ in 0..adds {
             step(&mut pair, &mut tally, random, &slots);
         }
         pair.hold_memory(&mut tally);
+    }
+    tally
+}
+
+/// Tables and segments anywhere, those over each other too, and entries that are rewritten between adds.
+pub fn anywhere(random: &mut Random, rings: u64, adds: u64) -> Tally {
+    let mut tally = Tally::new("adds, segments anywhere, rewritten");
+    for _ in 0..rings {
+        let table = Table::anywhere(random);
+        let mut pair = Pair::new(&mut tally, table, Some(random));
+        for n in 0..adds {
+            if n == 0 || random.once_in(8) {
+                pair.rewrite(&mut tally, random);
+            }
+            let slots = pair.table.slots();
+            step(&mut pair, &mut tally, random, &slots);
+        }
     }
     tally
 }
