@@ -24,7 +24,7 @@ mod theirs {
     pub use original::device::xhci::event_ring::EventRing;
     pub use original::device::xhci::linked_ring::LinkedRing;
     pub use original::device::xhci::trb::{
-        CommandTrbVariant, CompletionCode, EventTrb, TransferTrbVariant, TrbParseError,
+        CommandTrbVariant, CompletionCode, EventTrb, LinkTrb, TransferTrbVariant, TrbParseError,
     };
 
     pub fn panics<T>(action: impl FnOnce() -> T) -> bool {
@@ -187,6 +187,67 @@ fn link_in_the_transfer_parser() {
 }
 
 #[test]
+fn link_in_the_command_parser() {
+    let raw = trb(6, &[]);
+    let unknown = CommandTrbVariant::Unrecognized(raw, Refusal::Type(6));
+    assert_eq!(CommandTrbVariant::parse(raw), unknown);
+    // A Link and, where it leads, an Enable Slot.
+    let bytes = [trb(6, &[(0, 0x10), (12, 1)]), trb(9, &[(12, 1)])].concat();
+    let chase = LinkedRing::new(0, true).next_trb(GuestMemory::new(&bytes));
+    let followed = matches!(chase.answer, Answer::Trb(trb) if trb.address == 0x10);
+    assert!(followed, "{chase:?}");
+    original! {
+        let error = theirs::TrbParseError::UnknownTrbType(6);
+        let unknown = theirs::CommandTrbVariant::Unrecognized(raw, error);
+        assert_eq!(theirs::CommandTrbVariant::parse(raw), unknown);
+        let mut ring = theirs::LinkedRing::new(theirs::Memory::new(bytes), 0, true);
+        assert_eq!(ring.next_trb().map(|trb| trb.address), Some(0x10));
+    }
+}
+
+#[test]
+fn extended_property() {
+    for trb_type in [24, 25] {
+        let raw = trb(trb_type, &[]);
+        let unknown = CommandTrbVariant::Unrecognized(raw, Refusal::Type(trb_type));
+        assert_eq!(CommandTrbVariant::parse(raw), unknown);
+        original! {
+            let error = theirs::TrbParseError::UnknownTrbType(trb_type);
+            let unknown = theirs::CommandTrbVariant::Unrecognized(raw, error);
+            assert_eq!(theirs::CommandTrbVariant::parse(raw), unknown);
+        }
+    }
+    let optional = CommandTrbVariant::Unrecognized(trb(18, &[]), Refusal::Optional(18));
+    assert_eq!(CommandTrbVariant::parse(trb(18, &[])), optional);
+}
+
+#[test]
+fn fields_that_are_not_read() {
+    use lomvigast::trb::LinkTrb;
+    for byte in [0x02, 0x40] {
+        let (with, without) = (trb(1, &[(10, byte)]), trb(1, &[]));
+        let parse = TransferTrbVariant::parse;
+        assert_eq!(parse(with), parse(without));
+        original! {
+            let parse = theirs::TransferTrbVariant::parse;
+            assert_eq!(parse(with), parse(without));
+        }
+    }
+    let (suspend, stop) = (trb(15, &[(14, 0x80)]), trb(15, &[]));
+    assert_eq!(
+        CommandTrbVariant::parse(suspend),
+        CommandTrbVariant::parse(stop)
+    );
+    let (chained, link) = (trb(6, &[(12, 0x10)]), trb(6, &[]));
+    assert_eq!(LinkTrb::parse(chained), LinkTrb::parse(link));
+    original! {
+        let parse = theirs::CommandTrbVariant::parse;
+        assert_eq!(parse(suspend), parse(stop));
+        assert_eq!(theirs::LinkTrb::parse(chained), theirs::LinkTrb::parse(link));
+    }
+}
+
+#[test]
 fn not_taken_apart() {
     let full = |trb_type| trb(trb_type, &[(0, 0xff)]);
     let typed = trb(9, &[(14, 1)]);
@@ -280,6 +341,29 @@ fn full_ring() -> Result<(), Refusal> {
     original! {
         let mut ring = theirs::configured(&entries);
         assert!(theirs::panics(|| ring.enqueue(&theirs::port(1), 1, TABLE, 0x110)));
+    }
+    Ok(())
+}
+
+#[test]
+fn event_ring_full_error() -> Result<(), Refusal> {
+    let entries = [(0x100, 2)];
+    let mut bytes = memory(&entries);
+    let before = bytes.clone();
+    let mut ring = configured(&bytes, 1)?;
+    let refused = add(&mut ring, &mut bytes, port(1), 0x110);
+    assert_eq!((refused, bytes), (Err(Refusal::Full), before.clone()));
+    let host_controller = EventTrb::parse(trb(37, &[(11, 21)]));
+    assert_eq!(
+        host_controller.map_err(Refusal::from),
+        Err(Refusal::Type(37))
+    );
+    original! {
+        let memory = theirs::Memory::new(before.clone());
+        let mut ring = theirs::EventRing::new(memory.clone());
+        ring.configure(TABLE, 1);
+        theirs::panics(|| ring.enqueue(&theirs::port(1), 1, TABLE, 0x110));
+        assert!(memory.holds(&before));
     }
     Ok(())
 }

@@ -103,11 +103,30 @@ const ENTRIES: &[(&str, &str, &str)] = &[
         "a Link is for the link-following reader, not for this parser",
     ),
     (
+        "Type 6 in the command parser",
+        "parse_command 00000000 00000000 00000000 00180000",
+        "a Link is for the link-following reader, on a command ring too",
+    ),
+    (
+        "Types 24 and 25 in the command parser",
+        "parse_command 00000000 00000000 00000000 00600000\n\
+         parse_command 00000000 00000000 00000000 00640000",
+        "no row, and not called optional as 18 to 21 are",
+    ),
+    (
         "Isoch, Force Header, and the slot type of Enable Slot",
         "parse_transfer ff000000 00000000 00000000 00140000\n\
          parse_command ff000000 00000000 00000000 00580000\n\
          parse_command 00000000 00000000 00000000 00240100",
         "known by the type; none of the fields is read",
+    ),
+    (
+        "TD size, interrupter target, Stop's suspend bit and Link's chain bit",
+        "parse_transfer 00000000 00000000 00000200 00040000\n\
+         parse_transfer 00000000 00000000 00004000 00040000\n\
+         parse_command 00000000 00000000 00000000 003c8000\n\
+         parse_link 00000000 00000000 00000000 10180000",
+        "read as if each of these bits were 0",
     ),
     (
         "Other events",
@@ -143,6 +162,16 @@ const ENTRIES: &[(&str, &str, &str)] = &[
          ring events configure 0x0 1\n\
          ring events add 0x50 port=1",
         "full; a number in place of a panic",
+    ),
+    (
+        "Event Ring Full Error",
+        "memory 0x100\n\
+         poke 0x0 4000000000000000 02000000\n\
+         ring events new\n\
+         ring events configure 0x0 1\n\
+         ring events add 0x50 port=1\n\
+         read_trb 0x40",
+        "the slot is as it was: whoever adds knows that the ring is full, and the driver is not told",
     ),
     (
         "A segment of size 0",
