@@ -46,7 +46,7 @@ pub fn any(random: &mut Random, slots: u64) -> [u8; 16] {
         let pointer = 16 * random.below(slots + far) + bits;
         trb[..8].copy_from_slice(&pointer.to_le_bytes());
         trb[13] = LINK << 2 | trb[13] & 3;
-        trb[12] &= !TOGGLE | TOGGLE * u8::from(random.once_in(4));
+        trb[12] &= !TOGGLE | (TOGGLE * u8::from(random.once_in(4)));
     }
     trb
 }
@@ -64,7 +64,7 @@ pub fn chain(random: &mut Random, links: u64, mut state: bool) -> (Vec<u8>, u64)
         let bits = random.below(16) * u64::from(random.once_in(noted));
         let completion = COMPLETION * u8::from(random.once_in(noted));
         let toggle = random.once_in(toggles);
-        let flags = TOGGLE * u8::from(toggle) | completion | u8::from(state);
+        let flags = (TOGGLE * u8::from(toggle)) | completion | u8::from(state);
         bytes[pair[0] as usize..][..16].copy_from_slice(&link(pair[1] | bits, flags));
         state ^= toggle;
     }

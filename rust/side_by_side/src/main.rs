@@ -128,7 +128,8 @@ impl Counts {
     }
 }
 
-/// Rounds that every run has: with what is exhaustive some 75 million comparisons, and four million beside the list.
+/// Rounds that every run has: with what is exhaustive some 77 million comparisons, four million beside the list, and nearly three
+/// beside document 01.
 const ROUNDS: u32 = 40;
 
 /// So many seconds pass between two lines that tell how far a run is.

@@ -72,7 +72,7 @@ fn trb_at(bytes: &[u8], address: u64) -> Option<RawTrbBuffer> {
 }
 
 fn little(bytes: &[u8]) -> u64 {
-    let with = |number: u64, byte: &u8| number << 8 | u64::from(*byte);
+    let with = |number: u64, byte: &u8| (number << 8) | u64::from(*byte);
     bytes.iter().rev().fold(0, with)
 }
 
@@ -159,14 +159,14 @@ impl Rules {
             && self.entries.contains(&state.entries)
             && (self.index)(state.index, state.entries)
             && self.remaining.contains(&state.remaining)
-            && state.table % self.table == 0
-            && state.place % self.place == 0)
+            && state.table.is_multiple_of(self.table)
+            && state.place.is_multiple_of(self.place))
     }
 
     fn bad(&self, bytes: &[u8], entry: &Entry) -> bool {
         let end = u128::from(entry.base) + 16 * u128::from(entry.size);
         let inside = end <= bytes.len() as u128;
-        entry.base % self.segment != 0 || !self.size.contains(&entry.size) || !inside
+        !entry.base.is_multiple_of(self.segment) || !self.size.contains(&entry.size) || !inside
     }
 
     /// Each of these three answers a number, 0 for accepted, and what was met; the state, and in `add` the bytes, are then as they
@@ -180,7 +180,7 @@ impl Rules {
     ) -> (u8, Met) {
         let mut met = [false; 14];
         let entry = entry(bytes, table, 0);
-        met[2] = table % self.base != 0;
+        met[2] = !table.is_multiple_of(self.base);
         met[3] = !self.count.contains(&entries);
         met[1] = part(bytes, table.into(), 16 * usize::from(entries)).is_none();
         met[5] = entry.as_ref().is_some_and(|entry| self.bad(bytes, entry));
@@ -206,7 +206,7 @@ impl Rules {
         let next = next_entry(bytes, state).filter(|_| last);
         met[8] = !fits(event);
         met[4] = self.broken(state);
-        met[6] = report % self.report != 0;
+        met[6] = !report.is_multiple_of(self.report);
         met[1] = trb_at(bytes, state.place).is_none() || last && next.is_none();
         met[5] = next.as_ref().is_some_and(|entry| self.bad(bytes, entry));
         met[7] = slot_after(bytes, state) == Some(report);
