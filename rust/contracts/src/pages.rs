@@ -79,8 +79,22 @@ fn row_path(line: &str) -> Option<&str> {
     path.contains("::").then_some(path)
 }
 
+/// The lines of a page under a heading of the second level, each with its number.
+pub fn section<'a>(page: &'a str, title: &str) -> Vec<(usize, &'a str)> {
+    let mut found = Vec::new();
+    let mut inside = false;
+    for (at, line) in page.lines().enumerate() {
+        match line.strip_prefix("## ") {
+            Some(heading) => inside = heading == title,
+            None if inside => found.push((at + 1, line)),
+            None => {}
+        }
+    }
+    found
+}
+
 /// The words in backticks, each between an opening and a closing one.
-fn in_backticks(text: &str) -> impl Iterator<Item = &str> {
+pub fn in_backticks(text: &str) -> impl Iterator<Item = &str> {
     let closed = text.matches('`').count() / 2;
     let pieces = text.split('`').skip(1).step_by(2).take(closed);
     pieces.filter(|piece| !piece.is_empty())

@@ -5,7 +5,7 @@ use std::collections::HashSet;
 use crate::clause::{equated, Subject};
 use crate::fault::Fault;
 use crate::pages::{Item, Promises};
-use crate::source::{Function, Lent};
+use crate::source::{Function, Parameter, Passed};
 use crate::tree;
 
 /// The item of docs/LOOSE.md that lists the function and gives a reason.
@@ -19,13 +19,13 @@ pub fn reason<'a>(function: &Function, loose: &'a [Item]) -> Option<&'a Item> {
 
 /// The contract asks nothing of the caller, and gives the result and all that is lent to be changed by equations. A
 /// function in docs/LOOSE.md may give less, but has an `ensures`, unless the reason says that it has none.
-pub fn contract(function: &Function, loose: &[Item]) -> Vec<Fault> {
+pub fn contract(function: &Function, imports: &HashSet<String>, loose: &[Item]) -> Vec<Fault> {
     let mut wrong = Vec::new();
     if function.requires {
         wrong.push("has a `requires`; a public function refuses, and asks nothing".to_string());
     }
     match reason(function, loose) {
-        None => wrong.extend(unstated(function)),
+        None => wrong.extend(unstated(function, imports)),
         Some(item) if function.ensures.is_empty() && !item.says_no_ensures() => {
             wrong.push(format!(
                 "has no `ensures`, and its reason in {} does not say \"no ensures\"",
@@ -40,27 +40,38 @@ pub fn contract(function: &Function, loose: &[Item]) -> Vec<Fault> {
         .collect()
 }
 
-/// What the `ensures` clauses, taken together, do not give by an equation.
-fn unstated(function: &Function) -> Vec<String> {
-    let clauses = function.ensures.iter();
-    let stated: Vec<Subject> = clauses
-        .flat_map(|clause| equated(clause, &function.parameters))
-        .collect();
-    let mut missing = Vec::new();
-    if function.has_result && !stated.contains(&Subject::Result) {
-        missing.push("its result: `r ≡ ..` or `now r ≡ ..`".to_string());
+/// What the `ensures` clauses, taken together, do not give by an equation; or the clause that is not known.
+fn unstated(function: &Function, imports: &HashSet<String>) -> Vec<String> {
+    let mut stated: Vec<Subject> = Vec::new();
+    for clause in &function.ensures {
+        match equated(clause, function, imports) {
+            Ok(subjects) => stated.extend(subjects),
+            Err(what) => return vec![format!("its `ensures` {what}")],
+        }
     }
-    for parameter in &function.parameters {
-        let name = &parameter.name;
-        let now = stated.contains(&Subject::NowAtExit(name.clone()));
-        let whole = stated.contains(&Subject::AtExit(name.clone()));
-        let given = match parameter.lent {
-            Lent::No => true,
-            Lent::Plain => now,
-            Lent::Struct => now || whole,
-        };
-        if !given {
-            missing.push(format!("`{name}` at exit: `now ({name} .exit) ≡ ..`"));
+    let mut missing = Vec::new();
+    let mut wanted = |subject: Subject, what: String| {
+        if !stated.contains(&subject) {
+            missing.push(what);
+        }
+    };
+    match function.result {
+        None => {}
+        Some(Passed::Value) => wanted(Subject::Result, "its result: `r ≡ ..`".to_string()),
+        Some(_) => {
+            wanted(Subject::ResultNow, "its result: `now r ≡ ..`".to_string());
+            wanted(
+                Subject::ResultPlace,
+                "its result's place: `r .ptr ≡ ..`".to_string(),
+            );
+        }
+    }
+    for Parameter { name, passed } in &function.parameters {
+        if *passed == Passed::Lent {
+            wanted(
+                Subject::Lent(name.clone()),
+                format!("`{name}` at exit: `now ({name} .exit) ≡ ..`"),
+            );
         }
     }
     let loose = tree::LOOSE;

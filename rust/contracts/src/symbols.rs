@@ -2,12 +2,12 @@
 //! one from another place, or gives its name to something else.
 
 use crate::fault::Fault;
-use crate::lex::{blanked, names, Word};
+use crate::lex::{antt, bare, Word};
 
 const NAT: &str = "Prim.Native.Nat";
 
 /// The symbols, each with the module that it is taken from. `×` is the language's own, and is taken from nowhere.
-const SYMBOLS: [(&str, &str); 12] = [
+const SYMBOLS: [(&str, &str); 13] = [
     ("_≡_", "mathlib.Core.Path"),
     ("_<_", NAT),
     ("_≤_", NAT),
@@ -18,6 +18,7 @@ const SYMBOLS: [(&str, &str); 12] = [
     ("_%_", NAT),
     ("_^_", NAT),
     ("_×_", ""),
+    ("_∷_", "mathlib.Core.List"),
     ("length", "lib.ListN"),
     ("now", "denote.Ref"),
 ];
@@ -29,23 +30,17 @@ const LIBRARIES: [&str; 4] = ["mathlib", "Prim", "lib", "denote"];
 const MARKS: [&str; 6] = ["pub", "abbrev", "unfoldable", "axiom", "data", "record"];
 
 fn home(name: &str) -> Option<&'static str> {
-    let symbol = SYMBOLS.iter().find(|(symbol, _)| *symbol == name);
+    let symbol = SYMBOLS.iter().find(|(symbol, _)| *symbol == bare(name));
     symbol.map(|(_, home)| *home)
 }
 
-/// The faults of a file of `src/` or `specs/`.
+/// The faults of a file of `specs/`, or of what a Rattle file brings in.
 pub fn faults(file: &str, text: &str) -> Vec<Fault> {
     let of_specs = file.ends_with(".antt");
-    let text = if of_specs {
-        text.to_string()
-    } else {
-        // In Rattle `{-1}` and `--x` begin no comment.
-        blanked(text).replace("{-", "{ -").replace("--", "- -")
-    };
-    let words = names(&text);
+    let words = antt(text);
     let mut found = renamings(file, &words);
     for used in uses(&words) {
-        found.extend(used.fault(file));
+        found.extend(used.fault(file, of_specs));
     }
     if of_specs {
         found.extend(definitions(file, &words));
@@ -91,7 +86,7 @@ fn renamings(file: &str, words: &[Word]) -> Vec<Fault> {
     let mut found = Vec::new();
     for (at, by) in words.iter().enumerate() {
         let Some(to) = words.get(at + 1) else { break };
-        if ["as", "mod"].contains(&by.text) && LIBRARIES.contains(&to.text) {
+        if ["as", "mod"].contains(&by.text) && LIBRARIES.contains(&bare(to.text)) {
             found.push(Fault::new(file, to.line, to.text, "hides the library"));
         }
         if by.text == "as" && home(to.text).is_some() {
@@ -110,15 +105,18 @@ struct Used<'a> {
 }
 
 impl Used<'_> {
-    fn fault(&self, file: &str) -> Option<Fault> {
+    fn fault(&self, file: &str, of_specs: bool) -> Option<Fault> {
         let module = self.module.join(".");
         let module = module.strip_prefix("package.").unwrap_or(&module);
         let what = match home(self.name) {
             Some(home) if home == module => return None,
             Some("") => format!("is taken from {module}, but is the language's own"),
             Some(home) => format!("is taken from {module}, and not from {home}"),
-            None if LIBRARIES.contains(&self.name) && !module.is_empty() => {
+            None if LIBRARIES.contains(&bare(self.name)) && !module.is_empty() => {
                 "hides the library".to_string()
+            }
+            None if self.name.contains('_') && bare(self.name) == self.name && !of_specs => {
+                "is an operator that the reader of contracts does not know".to_string()
             }
             None => return None,
         };
@@ -228,8 +226,6 @@ mod tests {
         let what =
             "lib.rt:1: _≡_: is taken from Rattle.a.specs.Eq, and not from mathlib.Core.Path";
         assert_eq!(found, [what]);
-        let late = "fn f() -> i8 {-1}\nfn g() -> i8 { --2 } ghost use a.B.{_<_};";
-        assert_eq!(lines("lib.rt", late).len(), 1);
         for text in [
             "use mathlib.Core.Nat.{_+_}",
             "use mathlib.{Core.Nat._<_}",

@@ -1,4 +1,4 @@
-//! Reads a repository: its list of crates, their files, and the two pages.
+//! Reads a repository: its list of crates, their files, and the three pages.
 
 use std::fs;
 use std::path::Path;
@@ -6,6 +6,7 @@ use std::path::Path;
 pub const CRATES: &str = "crates.txt";
 pub const LOOSE: &str = "docs/LOOSE.md";
 pub const PROMISES: &str = "docs/PROMISES.md";
+pub const THEOREMS: &str = "docs/THEOREMS.md";
 
 /// A file, by its name from the root of the repository.
 #[derive(Clone, Debug)]
@@ -14,7 +15,7 @@ pub struct File {
     pub text: String,
 }
 
-/// A folder of crates/, with the Rattle and definition files of its src/ and specs/.
+/// A folder of crates/, with the Rattle and antt files of its src/, specs/ and proofs/.
 #[derive(Clone, Debug)]
 pub struct Crate {
     pub name: String,
@@ -47,8 +48,11 @@ impl Crate {
 pub struct Tree {
     pub listed: String,
     pub crates: Vec<Crate>,
+    /// The must-fail edits, each by its crate and its name: `trb/one_fixed_answer`.
+    pub edits: Vec<String>,
     pub loose: String,
     pub promises: String,
+    pub theorems: String,
 }
 
 /// Reads the repository at a root. The error is one line that says what cannot be read.
@@ -56,8 +60,10 @@ pub fn read(root: &Path) -> Result<Tree, String> {
     let mut tree = Tree {
         listed: text(root, CRATES)?,
         crates: Vec::new(),
+        edits: Vec::new(),
         loose: text(root, LOOSE)?,
         promises: text(root, PROMISES)?,
+        theorems: text(root, THEOREMS)?,
     };
     for name in entries(root, "crates")? {
         let folder = format!("crates/{name}");
@@ -65,18 +71,25 @@ pub fn read(root: &Path) -> Result<Tree, String> {
             continue;
         }
         let mut files = Vec::new();
-        for part in ["specs", "src"] {
+        for part in ["proofs", "specs", "src"] {
             let part = format!("{folder}/{part}");
             if root.join(&part).is_dir() {
                 collect(root, &part, &mut files)?;
             }
+        }
+        let edits = format!("{folder}/must-fail");
+        if root.join(&edits).is_dir() {
+            let files = entries(root, &edits)?;
+            let labels = files.iter().filter_map(|file| file.strip_suffix(".edit"));
+            tree.edits
+                .extend(labels.map(|label| format!("{name}/{label}")));
         }
         tree.crates.push(Crate { name, files });
     }
     Ok(tree)
 }
 
-/// Adds the Rattle and definition files below a folder.
+/// Adds the Rattle and antt files below a folder.
 fn collect(root: &Path, folder: &str, files: &mut Vec<File>) -> Result<(), String> {
     for entry in entries(root, folder)? {
         let name = format!("{folder}/{entry}");

@@ -42,7 +42,28 @@ fn run(arguments: &[&std::ffi::OsStr]) -> Output {
         .expect("the program can be run")
 }
 
+const PROMISES: &str = "| `trb::ring::Ring::new` | ringAt |
+| `trb::ring::fill` | length |
+
+## Theorems that belong to no function
+
+| Statement | File | Edit |
+|---|---|---|
+| All is well: `law` | crates/trb/proofs/Laws.antt | trb/lawless |
+
+## Demands
+
+1. `law`, of `rings`.
+";
+
+const LAWS: &str = "use mathlib.Core.Path.{_≡_}
+
+pub law : (n : ℕ) → n ≡ n
+law n = refl
+";
+
 const RING: &str = "ghost use mathlib.Core.Path.{_≡_};
+ghost use Rattle.trb.specs.Lib.{ringAt};
 
 impl Ring {
     pub fn new(place: u64) -> Self
@@ -63,13 +84,15 @@ fn repository(name: &str) -> Repository {
     made.write("crates.txt", "trb:\nshow: trb io\n");
     made.write("crates/trb/src/lib.rt", "pub mod ring;\n");
     made.write("crates/trb/src/ring.rt", RING);
-    made.write("crates/trb/specs/Lib.antt", "pub mod Rings\n");
+    made.write("crates/trb/specs/Lib.antt", "pub rings : ℕ\nrings = 1\n");
     made.write("crates/show/src/main.rt", "fn main() {}\n");
     made.write("docs/LOOSE.md", "- `trb::ring::fill`: any bytes will do.\n");
-    made.write(
-        "docs/PROMISES.md",
-        "| `trb::ring::Ring::new` | ringAt |\n| `trb::ring::fill` | length |\n",
-    );
+    made.write("crates/trb/proofs/Laws.antt", LAWS);
+    made.write("crates/trb/must-fail/lawless.edit", "");
+    made.write("docs/PROMISES.md", PROMISES);
+    made.write("docs/THEOREMS.md", "");
+    let page = run(&["--theorems".as_ref(), made.0.as_os_str()]).stdout;
+    made.write("docs/THEOREMS.md", &String::from_utf8_lossy(&page));
     made
 }
 
@@ -88,7 +111,7 @@ fn faults_are_told_in_order() {
     let (status, text) = made.check();
     let expected = "\
 crates/show/specs/Lib.antt:1: _<_: is defined here, but a contract's symbol means what the library says
-crates/trb/src/ring.rt:11: trb::ring::fill: no equation of `mem` at exit: `now (mem .exit) ≡ ..`; and docs/LOOSE.md gives no reason
+crates/trb/src/ring.rt:12: trb::ring::fill: its `ensures` has an equation of `length ( now ( mem . exit ) )`
 docs/LOOSE.md:1: trb::fill: names no public function
 contracts: 2 public functions, 0 loose, 3 faults
 ";
@@ -97,11 +120,37 @@ contracts: 2 public functions, 0 loose, 3 faults
 }
 
 #[test]
+fn a_theorem_that_is_gone_is_told() {
+    let made = repository("gone");
+    made.write("crates/trb/proofs/Laws.antt", "-- pub law : ℕ\n");
+    let (status, text) = made.check();
+    let expected = "\
+docs/PROMISES.md:8: law: is not declared in crates/trb/proofs/Laws.antt
+docs/THEOREMS.md:9: crates/trb/proofs/Laws.antt: has no theorem of the table
+contracts: 2 public functions, 1 loose, 2 faults
+";
+    assert_eq!(text, expected);
+    assert_eq!(status, Some(1));
+}
+
+#[test]
+fn a_kit_that_is_not_there_is_told() {
+    let made = repository("no-kit");
+    let output = run(&[made.0.as_os_str(), made.0.as_os_str()]);
+    assert_eq!(output.status.code(), Some(2));
+    let line = String::from_utf8_lossy(&output.stderr).into_owned();
+    assert!(
+        line.starts_with("contracts: cannot run ") && line.lines().count() == 1,
+        "{line}"
+    );
+}
+
+#[test]
 fn misuse_is_one_clear_line() {
     let made = repository("misused");
     fs::remove_file(made.0.join("docs/PROMISES.md")).expect("the page is there");
     let root = made.0.as_os_str();
-    for arguments in [&[][..], &[root], &[root, root]] {
+    for arguments in [&[][..], &[root], &[root, root], &[root, root, root]] {
         let output = run(arguments);
         assert_eq!(output.status.code(), Some(2));
         assert!(output.stdout.is_empty());
