@@ -4,7 +4,7 @@ use std::collections::{BTreeMap, BTreeSet, HashSet};
 use std::fmt;
 
 use crate::fault::Fault;
-use crate::source::{source, Function, Source};
+use crate::source::{print, source, Function, Source};
 use crate::tree::{Crate, Tree, CRATES};
 use crate::{edits, kit, pages, rules, symbols, theorems};
 
@@ -13,6 +13,8 @@ use crate::{edits, kit, pages, rules, symbols, theorems};
 pub struct Report {
     pub functions: usize,
     pub loose: usize,
+    /// The crates that were read a second time, as the compiler printed them.
+    pub printed: usize,
     pub faults: Vec<Fault>,
 }
 
@@ -20,6 +22,10 @@ impl fmt::Display for Report {
     fn fmt(&self, f: &mut fmt::Formatter<'_>) -> fmt::Result {
         for fault in &self.faults {
             writeln!(f, "{fault}")?;
+        }
+        if self.printed > 0 {
+            let crates = self.printed;
+            writeln!(f, "contracts: {crates} crates are read twice, as written and as the compiler printed them")?;
         }
         writeln!(
             f,
@@ -46,6 +52,7 @@ pub fn check(tree: &Tree, compiled: Option<&BTreeSet<String>>) -> Report {
     faults.extend(compiled.map_or(Vec::new(), |compiled| {
         list_of_compiler(tree, &all, compiled)
     }));
+    faults.extend(tree.crates.iter().flat_map(|one| print_faults(one, &all)));
     let loose = pages::loose(&tree.loose);
     let promises = pages::promises(&tree.promises);
     for source in &sources {
@@ -63,6 +70,11 @@ pub fn check(tree: &Tree, compiled: Option<&BTreeSet<String>>) -> Report {
     Report {
         functions: public.len(),
         loose: public.iter().filter(is_loose).count(),
+        printed: tree
+            .crates
+            .iter()
+            .filter(|one| !one.printed.is_empty())
+            .count(),
         faults,
     }
 }
@@ -89,6 +101,39 @@ fn symbol_faults(tree: &Tree, sources: &[Source]) -> Vec<Fault> {
     uses.chain(specs)
         .flat_map(|(file, text)| symbols::faults(file, text))
         .collect()
+}
+
+/// Functions whose head is not what the compiler printed when it proved the crate.
+fn print_faults(one: &Crate, all: &[&Function]) -> Vec<Fault> {
+    let (mut printed, mut faults) = (BTreeMap::new(), Vec::new());
+    for (file, module) in one.printed_modules() {
+        match print(&file.name, &module, &file.text) {
+            Ok(found) => printed.extend(found.functions.into_iter().map(|f| (f.path.clone(), f))),
+            Err(fault) => faults.push(fault),
+        }
+    }
+    if one.printed.is_empty() {
+        return faults;
+    }
+    let own = format!("{}::", one.name);
+    let what = format!(
+        "is not as the compiler printed it in target/rlib/{}.rlib",
+        one.name
+    );
+    for function in all.iter().filter(|one| one.path.starts_with(&own)) {
+        if printed.remove(&function.path).map(|one| one.head()) != Some(function.head()) {
+            faults.push(Fault::new(
+                &function.file,
+                function.line,
+                &function.path,
+                &*what,
+            ));
+        }
+    }
+    let hidden = printed
+        .into_values()
+        .map(|one| Fault::new(&one.file, one.line, &one.path, &*what));
+    faults.into_iter().chain(hidden).collect()
 }
 
 /// The functions of the libraries that this reader knows and the compiler does not, or the other way about.
@@ -254,6 +299,43 @@ pub extern "C" fn exported(x: u8) -> u8
             .map(Fault::to_string)
             .collect();
         one_fault(&told, "demo::LinkedRing::add: stands 1 times in the sources as they are read here, and 0 times");
+    }
+
+    #[test]
+    fn what_the_compiler_printed_is_what_is_read() {
+        let mut tree = demo(GOOD, "", "");
+        tree.crates[0].printed = vec![File {
+            name: "crates/demo/src/lib.rt".to_string(),
+            text: "pub fn f ( x : u8 ) -> u8\n    ensures { λ r. ⌜ r ≡ x ⌝ } ;\n".to_string(),
+        }];
+        tree.promises = format!("`demo::f`{}", crate::demo::TABLE);
+        for (source, told) in [
+            (
+                "pub fn f(x: u8) -> u8 ensures { λ r.\n ⌜ r ≡ x ⌝ } { x }",
+                0,
+            ),
+            ("pub fn f(x: u8) -> u8 ensures { λ r. ⌜ r ≡ 1 ⌝ } { x }", 1),
+            (
+                "pub fn f(x: u8) -> u8 requires { ⌜ x < 1 ⌝ } ensures { λ r. ⌜ r ≡ x ⌝ } { x }",
+                2,
+            ),
+            (
+                "pub fn f(x: &u8) -> u8 ensures { λ r. ⌜ r ≡ now (x .entry) ⌝ } { x }",
+                1,
+            ),
+            (
+                "pub fn f(x: u8) -> u8 ensures { λ r. ⌜ r ≡ x ⌝ } { x } fn g() {}",
+                1,
+            ),
+            ("", 1),
+        ] {
+            tree.crates[0].files[0].text = source.to_string();
+            let found = lines(&tree);
+            assert_eq!(found.len(), told, "{source}\n{found:#?}");
+        }
+        assert!(check(&tree, None)
+            .to_string()
+            .contains("1 crates are read twice"));
     }
 
     #[test]

@@ -30,6 +30,7 @@ pub fn demo(source: &str, loose: &str, promises: &str) -> Tree {
         crates: vec![Crate {
             name: "demo".to_string(),
             files: vec![file("src/lib.rt", source), file("proofs/Laws.antt", LAWS)],
+            printed: Vec::new(),
         }],
         edits: Vec::new(),
         loose: loose.to_string(),

@@ -4,7 +4,7 @@
 use std::collections::BTreeSet;
 use std::env::consts::ARCH;
 use std::fs;
-use std::path::Path;
+use std::path::{Path, PathBuf};
 use std::process::Command;
 
 use crate::tree::{Crate, Tree};
@@ -38,8 +38,7 @@ fn printed(kit: &Path, root: &Path, tree: &Tree, empty: &Path) -> Result<String,
         .arg(empty.join("main.rt"))
         .args(["--crate-name", "empty"]);
     let own = libraries(tree).map(|one| (one.name.clone(), root.join("crates").join(&one.name)));
-    let kits = ["std", "bytes"].map(|name| (name.to_string(), kit.join("libs").join(name)));
-    for (name, folder) in own.chain(kits) {
+    for (name, folder) in own.chain(of_kit(kit)) {
         command
             .arg("--lib")
             .arg(format!("{name}={}", folder.join("src/lib.rt").display()));
@@ -55,4 +54,18 @@ fn printed(kit: &Path, root: &Path, tree: &Tree, empty: &Path) -> Result<String,
         ));
     }
     String::from_utf8(output.stdout).map_err(|_| "the kit's compiler prints no text".to_string())
+}
+
+/// The kit's own libraries: the crates may use any of them.
+fn of_kit(kit: &Path) -> Vec<(String, PathBuf)> {
+    let entries = fs::read_dir(kit.join("libs"))
+        .into_iter()
+        .flatten()
+        .flatten();
+    let folders = entries
+        .map(|entry| entry.path())
+        .filter(|folder| folder.join("src/lib.rt").is_file());
+    let named =
+        folders.filter_map(|folder| Some((folder.file_name()?.to_str()?.to_string(), folder)));
+    named.collect()
 }

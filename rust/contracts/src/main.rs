@@ -11,7 +11,9 @@
 //! 5. The symbols of contracts mean what the library says.
 //! 6. The theorems that docs/PROMISES.md names are declared, and docs/THEOREMS.md has their statements.
 //! 7. docs/PROMISES.md names every must-fail edit, and none that is not there.
-//! 8. With `contracts ROOT KIT`: the compiler of the Rattle kit in the folder KIT knows the same functions.
+//! 8. Of a crate that is proved in target/rlib, and not changed since, the heads of all functions are those that the
+//!    compiler printed there, without comments and bodies.
+//! 9. With `contracts ROOT KIT`: the compiler of the Rattle kit in the folder KIT knows the same functions.
 //!
 //! `contracts --theorems ROOT` prints docs/THEOREMS.md as the files have it.
 

@@ -44,12 +44,44 @@ pub struct Source {
     pub uses: String,
 }
 
+impl Function {
+    /// All that the head says, with the words of its clauses.
+    pub fn head(&self) -> String {
+        let words = |clause: &String| {
+            antt(clause)
+                .iter()
+                .map(|word| word.text)
+                .collect::<Vec<_>>()
+                .join(" ")
+        };
+        let clauses: Vec<String> = self.ensures.iter().map(words).collect();
+        let Function {
+            public,
+            parameters,
+            result,
+            requires,
+            ..
+        } = self;
+        format!("{public} {parameters:?} {result:?} {requires} {clauses:?}")
+    }
+}
+
 /// Reads a file whose module has this path, as `trb::event`.
 pub fn source(file: &str, module: &str, text: &str) -> Result<Source, Fault> {
+    read(file, module, text, false)
+}
+
+/// Reads a file as the compiler prints it, in which functions have no body.
+pub fn print(file: &str, module: &str, text: &str) -> Result<Source, Fault> {
+    read(file, module, text, true)
+}
+
+fn read(file: &str, module: &str, text: &str, bodiless: bool) -> Result<Source, Fault> {
     let read = || -> Read<Source> {
         let mut parser = Parser {
             file,
             lexer: Lexer::new(text)?,
+            bodiless,
             ahead: None,
             found: Source {
                 file: file.to_string(),
@@ -91,6 +123,8 @@ enum Place {
 struct Parser<'a> {
     file: &'a str,
     lexer: Lexer<'a>,
+    /// Whether a function ends in `;` and has no body.
+    bodiless: bool,
     ahead: Option<Word<'a>>,
     found: Source,
 }
@@ -338,8 +372,10 @@ impl<'a> Parser<'a> {
     fn clauses(&mut self, function: &mut Function) -> Read<()> {
         loop {
             let word = self.word()?;
-            if word == "{" {
-                return self.skip("}", &[]);
+            match word {
+                ";" if self.bodiless => return Ok(()),
+                "{" if !self.bodiless => return self.skip("}", &[]),
+                _ => {}
             }
             if !["requires", "ensures"].contains(&word) {
                 return self.unknown(word, "in a function's head");

@@ -20,6 +20,9 @@ pub struct File {
 pub struct Crate {
     pub name: String,
     pub files: Vec<File>,
+    /// The Rattle files as the compiler printed them when it last proved the crate, under the names of the sources;
+    /// none where the crate is not proved, or a source is younger.
+    pub printed: Vec<File>,
 }
 
 impl Crate {
@@ -30,16 +33,26 @@ impl Crate {
     }
 
     /// The Rattle files, each with the path of its module.
-    pub fn modules(&self) -> impl Iterator<Item = (&File, String)> {
+    pub fn modules(&self) -> Vec<(&File, String)> {
+        self.with_modules(&self.files)
+    }
+
+    /// The same of what the compiler printed.
+    pub fn printed_modules(&self) -> Vec<(&File, String)> {
+        self.with_modules(&self.printed)
+    }
+
+    fn with_modules<'a>(&self, files: &'a [File]) -> Vec<(&'a File, String)> {
         let sources = format!("crates/{}/src/", self.name);
-        self.files.iter().filter_map(move |file| {
+        let module = |file: &'a File| {
             let module = file.name.strip_prefix(&sources)?.strip_suffix(".rt")?;
             let path = match module {
                 "lib" | "main" => self.name.clone(),
                 _ => format!("{}::{}", self.name, module.replace('/', "::")),
             };
             Some((file, path))
-        })
+        };
+        files.iter().filter_map(module).collect()
     }
 }
 
@@ -84,9 +97,38 @@ pub fn read(root: &Path) -> Result<Tree, String> {
             tree.edits
                 .extend(labels.map(|label| format!("{name}/{label}")));
         }
-        tree.crates.push(Crate { name, files });
+        let printed = printed(root, &name, &files)?;
+        tree.crates.push(Crate {
+            name,
+            files,
+            printed,
+        });
     }
     Ok(tree)
+}
+
+/// What the compiler printed of a crate, in the library that it wrote when it proved it.
+fn printed(root: &Path, name: &str, files: &[File]) -> Result<Vec<File>, String> {
+    let library = format!("target/rlib/{name}.rlib");
+    let changed = |file: &str| {
+        fs::metadata(root.join(file))
+            .and_then(|data| data.modified())
+            .ok()
+    };
+    let Some(proved) = changed(&format!("{library}/format")) else {
+        return Ok(Vec::new());
+    };
+    let mut sources = files.iter().filter(|file| file.name.ends_with(".rt"));
+    if sources.any(|file| changed(&file.name).is_none_or(|time| time > proved)) {
+        return Ok(Vec::new());
+    }
+    let mut found = Vec::new();
+    let folder = format!("{library}/lang");
+    collect(root, &format!("{folder}/src"), &mut found)?;
+    for file in &mut found {
+        file.name = file.name.replacen(&folder, &format!("crates/{name}"), 1);
+    }
+    Ok(found)
 }
 
 /// Adds the Rattle and antt files below a folder.

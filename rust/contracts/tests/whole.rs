@@ -133,6 +133,40 @@ contracts: 2 public functions, 1 loose, 2 faults
     assert_eq!(status, Some(1));
 }
 
+/// `RING` as the compiler prints it.
+const PRINTED: &str = "ghost use mathlib.Core.Path.{_≡_};
+impl Ring {
+pub fn new ( place : u64 ) -> Self
+        ensures { λ r. ⌜ r ≡ ringAt place ⌝ } ;
+}
+pub fn fill ( mem : & mut [ u8 ] )
+    ensures { λ _. ⌜ length (now (mem .exit)) ≡ length (now (mem .entry)) ⌝ } ;
+";
+
+#[test]
+fn what_the_compiler_printed_is_read_too() {
+    let made = repository("printed");
+    made.write("target/rlib/trb.rlib/format", "");
+    made.write("target/rlib/trb.rlib/lang/src/lib.rt", "pub mod ring ;\n");
+    made.write("target/rlib/trb.rlib/lang/src/ring.rt", PRINTED);
+    let (status, text) = made.check();
+    assert!(
+        text.starts_with("contracts: 1 crates are read twice"),
+        "{text}"
+    );
+    assert_eq!(status, Some(0));
+    let other = PRINTED.replace("ringAt place", "ringAt 1");
+    made.write("target/rlib/trb.rlib/lang/src/ring.rt", &other);
+    let (status, text) = made.check();
+    let what = "crates/trb/src/ring.rt:5: trb::ring::Ring::new: is not as the compiler printed it";
+    assert!(text.starts_with(what), "{text}");
+    assert_eq!(status, Some(1));
+    made.write("crates/trb/src/ring.rt", RING);
+    let (status, text) = made.check();
+    assert_eq!(text, "contracts: 2 public functions, 1 loose, 0 faults\n");
+    assert_eq!(status, Some(0));
+}
+
 #[test]
 fn a_kit_that_is_not_there_is_told() {
     let made = repository("no-kit");
