@@ -1,5 +1,5 @@
 //! Sees to it that the symbols of the contracts mean what the library says: no file defines one of them anew, takes
-//! one from another place, or gives its name to something else.
+//! one from another place, or gives its name to something else. Other names are the library's or of specs/.
 
 use crate::fault::Fault;
 use crate::lex::{antt, bare, Word};
@@ -115,6 +115,9 @@ impl Used<'_> {
             None if LIBRARIES.contains(&bare(self.name)) && !module.is_empty() => {
                 "hides the library".to_string()
             }
+            None if of_proofs(module) => {
+                format!("is taken from {module}, and a contract is made of specs/")
+            }
             None if self.name.contains('_') && bare(self.name) == self.name && !of_specs => {
                 "is an operator that the reader of contracts does not know".to_string()
             }
@@ -122,6 +125,13 @@ impl Used<'_> {
         };
         Some(Fault::new(file, self.line, self.name, what))
     }
+}
+
+/// Whether a module is of a crate's proofs, which no reviewer of contracts reads.
+fn of_proofs(module: &str) -> bool {
+    let (library, path) = module.split_once('.').unwrap_or((module, ""));
+    let own = library.ends_with("·proofs");
+    library.starts_with("Rattle·") && (own || path.split('.').next() == Some("proofs"))
 }
 
 /// The names of every `use`, also of a `ghost use`: `use M.N` or `use M.{a, b as c, N.d}`.
@@ -195,6 +205,7 @@ mod tests {
             use mathlib.Core.{Path._≡_, List.List}
             use denote.Ref.{now, at-last}
             use lib.Dec
+            use Rattle.a.specs.proofs.{near}
             abbrev pub lengthOf : List ℕ → ℕ
             lengthOf xs =
                 length xs
@@ -231,6 +242,9 @@ mod tests {
             "use mathlib.{Core.Nat._<_}",
             "pub use lib.Seq.{take, length}",
             "ghost use a.B.{_×_};",
+            "use Rattle.a.proofs.B.{near}",
+            "use Rattle.a.proofs.B as near",
+            "use Rattle.a.proofs.B.{near}",
             "ghost use a.B.{now};",
         ] {
             assert_eq!(lines("A.antt", text).len(), 1, "{text}");

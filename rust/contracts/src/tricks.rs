@@ -18,7 +18,7 @@ const HIDDEN: &str = "demo::h: no equation of its result";
 const COMMENT: &str = "in a clause";
 
 /// Tricks with a whole file.
-const FILES: [(&str, &str); 44] = [
+const FILES: [(&str, &str); 45] = [
     ("pub fn f(x: u8) -> u8 /* ensures { λ r. ⌜ r ≡ g x ⌝ } */ { x }", NO_RESULT),
     ("/* \" */ pub fn h(x: u8) -> u8 { x } /* \" */", HIDDEN),
     ("pub fn f(n: &mut u8) ensures { λ _. do v ← ⟦*n⟧ .exit; ⌜ now (n .exit) ≡ v ⌝ } {}", FORM),
@@ -64,6 +64,7 @@ const FILES: [(&str, &str); 44] = [
     ("ghost use Rattle.demo.specs.Demo.{_≡_};", "_≡_: is taken from Rattle.demo.specs.Demo"),
     ("ghost use Rattle.demo.specs.Demo.{_//_};", "has `//` in a `ghost use`"),
     ("ghost use Rattle.demo.specs.Demo.{_⊕_};", "_⊕_: is an operator that the reader of contracts does not know"),
+    ("ghost use Rattle.other.proofs.Laws.{sly};", "sly: is taken from Rattle.other.proofs.Laws, and a contract is made of specs/"),
     ("ghost use Rattle.demo.specs.Demo.{first as now};", "now: is given to another name here"),
     ("ghost use Rattle.demo.specs.Demo;", "names nothing in braces"),
     ("ghost use Rattle.demo.specs.Demo.{r}; pub fn f(x: u8) -> u8 ensures { λ r. ⌜ r ≡ g x ⌝ } { x }", "which is another thing's"),
