@@ -8,7 +8,8 @@
 //!          = now r, r .ptr           a reference's: what stands there, and where
 //!          = now (p .exit)           what a parameter lends, at the end
 //! TERM     = numbers, names that a `ghost use` of the file brings in, parameters passed by value, `now (p .entry)` and
-//!            `p .entry .ptr` of the others, fields after a dot, parentheses, a comma, and the operators of `SIGNS`
+//!            `p .entry .ptr` of the others, fields after a dot, parentheses, a comma, and the operators of `SIGNS`;
+//!            all but these in ASCII
 //! ```
 //!
 //! and what is not of this form is a fault. A term says nothing of the result or of any value at exit, binds no name and
@@ -133,6 +134,9 @@ impl Scope<'_> {
     /// in: a term that says the name then speaks of the parameter.
     fn check_names(&self) -> Result<(), String> {
         let result = self.result;
+        if !plain(result) {
+            return Err(format!("gives the result the name `{result}`"));
+        }
         if self.parameter(result).is_some() || self.imports.contains(result) || result == "now" {
             return Err(format!(
                 "gives the result the name `{result}`, which is another thing's"
@@ -238,7 +242,7 @@ impl Scope<'_> {
         let sign = SIGNS.iter().find(|(sign, _)| *sign == word);
         let known = match sign {
             Some((_, name)) => self.imports.contains(*name),
-            None => self.imports.contains(word) && word != "_" || number(word),
+            None => self.imports.contains(word) && word.is_ascii() && word != "_" || number(word),
         };
         match known {
             true => Ok(()),

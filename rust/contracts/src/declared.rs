@@ -1,7 +1,7 @@
 //! Reads what an antt file declares, by its layout, which `rt fmt` keeps: a declaration begins where its block does, and
 //! goes on in the lines that are set further in.
 
-use crate::lex::{antt, bare, uncommented, Read, Trouble, Word};
+use crate::lex::{antt, bare, seen, uncommented, Read, Trouble, Word};
 
 /// A declaration: its type as it is written, or all of it where it is a `record` or a `data`.
 #[derive(Clone, Debug, Default, PartialEq, Eq)]
@@ -49,6 +49,7 @@ const MARKS: [&str; 5] = ["pub", "abbrev", "unfoldable", "record", "data"];
 const OTHERS: [&str; 6] = ["mod", "ruleset", "unfolding", "infix", "infixl", "infixr"];
 
 pub fn declared(text: &str) -> Read<Declared> {
+    seen(text)?;
     let text = uncommented(text);
     if let Some(word) = antt(&text).iter().find(|word| word.text.starts_with('"')) {
         return trouble(word.line, "has a quoted text");
@@ -284,6 +285,7 @@ last = ℕ
             "module M",
             "a : B\na = c\nmutual\n  d : B\n  d = e",
             "a : B\nd = e",
+            "a\u{a0}b : C",
             "mutual\n  a : B",
         ] {
             assert!(declared(text).is_err(), "{text}");

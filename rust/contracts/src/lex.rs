@@ -26,18 +26,9 @@ pub struct Lexer<'a> {
 }
 
 impl<'a> Lexer<'a> {
-    /// A file in which a character that hides or turns others stands is not read, wherever the character is.
     pub fn new(text: &'a str) -> Read<Self> {
-        let hides = |c: char| {
-            c.is_control() && c != '\n' || "\u{2028}\u{2029}\u{feff}".contains(c) || turns(c)
-        };
-        match text.find(hides) {
-            Some(at) => Err(Trouble {
-                line: text[..at].matches('\n').count() + 1,
-                what: "has a character that cannot be seen".to_string(),
-            }),
-            None => Ok(Lexer::over(text)),
-        }
+        seen(text)?;
+        Ok(Lexer::over(text))
     }
 
     fn over(text: &'a str) -> Self {
@@ -177,9 +168,32 @@ impl<'a> Lexer<'a> {
 /// Comments of both languages, and what may hide one.
 const UNCOUNTED: [&str; 7] = ["--", "{-", "-}", "//", "/*", "*/", "\""];
 
+/// A text in which a character stands that cannot be seen, or turns others, is not read, wherever it is. One that looks
+/// like a space may be a part of a name.
+pub fn seen(text: &str) -> Read<()> {
+    let space = |c: char| c == ' ' || c == '\n';
+    let unseen = |c: char| (c.is_control() || c.is_whitespace()) && !space(c) || turns(c);
+    match text.find(unseen) {
+        Some(at) => Err(Trouble {
+            line: text[..at].matches('\n').count() + 1,
+            what: "has a character that cannot be seen".to_string(),
+        }),
+        None => Ok(()),
+    }
+}
+
 /// Characters that turn the direction of a text, or have no width.
 fn turns(c: char) -> bool {
-    matches!(c, '\u{200b}'..='\u{200f}' | '\u{202a}'..='\u{202e}' | '\u{2060}'..='\u{2069}' | '\u{ad}')
+    let code = c as u32;
+    let ranges = [
+        0xad..=0xad,
+        0x200b..=0x200f,
+        0x202a..=0x202e,
+        0x2060..=0x2069,
+        0xfe00..=0xfe0f,
+        0xfeff..=0xfeff,
+    ];
+    ranges.iter().any(|range| range.contains(&code))
 }
 
 fn named(c: char) -> bool {
@@ -355,6 +369,8 @@ mod tests {
             "a\u{202e}b",
             "// a\rfn",
             "a\u{200b}b",
+            "a\u{a0}b",
+            "a\tb",
             "«a»",
             "'",
         ] {

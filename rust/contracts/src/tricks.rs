@@ -18,7 +18,7 @@ const HIDDEN: &str = "demo::h: no equation of its result";
 const COMMENT: &str = "in a clause";
 
 /// Tricks with a whole file.
-const FILES: [(&str, &str); 45] = [
+const FILES: [(&str, &str); 47] = [
     ("pub fn f(x: u8) -> u8 /* ensures { λ r. ⌜ r ≡ g x ⌝ } */ { x }", NO_RESULT),
     ("/* \" */ pub fn h(x: u8) -> u8 { x } /* \" */", HIDDEN),
     ("pub fn f(n: &mut u8) ensures { λ _. do v ← ⟦*n⟧ .exit; ⌜ now (n .exit) ≡ v ⌝ } {}", FORM),
@@ -34,6 +34,8 @@ const FILES: [(&str, &str); 45] = [
     ("pub fn f(x: u8) -> u8 ensures { λ r. ⌜ r < 9 ⌝ -- } ensures { λ r. ⌜ r ≡ g x ⌝\n } { x }", COMMENT),
     ("pub fn f(x: u8) -> u8 ensures { λ r. {- ⌜ r ≡ g x ⌝ } -} ⌜ r < 9 ⌝ } { x }", COMMENT),
     ("pub fn f(x: u8) -> u8 ensures { λ r. ⌜ r < \"}\" ⌝ } ensures { λ r. ⌜ r ≡ g x ⌝ } { x }", COMMENT),
+    ("ghost use a.B.{r\u{a0}≡\u{a0}g}; pub fn f(x: u8) -> u8 ensures { λ r. ⌜ r\u{a0}≡\u{a0}g ⌝ } { x }", "cannot be seen"),
+    ("ghost use a.B.{ｒ}; pub fn f(x: u8) -> u8 ensures { λ r. ⌜ r ≡ ｒ ⌝ } { x }", "has `ｒ`"),
     // Literals.
     ("fn a() -> u8 { b'\"' } pub fn h(x: u8) -> u8 { x } fn b() -> u8 { b'\"' }", HIDDEN),
     ("fn a() { b\"\\\\\"; } pub fn h(x: u8) -> u8 { x } fn b() { b\"\\\"\"; }", HIDDEN),
@@ -71,7 +73,7 @@ const FILES: [(&str, &str); 45] = [
 ];
 
 /// Tricks with the clause of `f(x: u8, s: &[u8], mem: &mut [u8]) -> u8`, whose other clauses are honest.
-const CLAUSES: [(&str, &str); 34] = [
+const CLAUSES: [(&str, &str); 35] = [
     ("λ r. ⌜ r ≡ r ⌝", "its own subject"),
     ("λ r. ⌜ r ≡ g (g r) ⌝", "its own subject"),
     ("λ r. ⌜ r ≡ «r» ⌝", "has `«r»`"),
@@ -84,6 +86,7 @@ const CLAUSES: [(&str, &str); 34] = [
     ("λ r. ⌜ r ≡ g x ≡ x ⌝", "has `≡`"),
     ("λ r. ⌜ (λ r. r ≡ g x) x ⌝", "an equation of `( λ r . r`"),
     ("λ r r. ⌜ r ≡ g x ⌝", FORM),
+    ("λ <. ⌜ < < 9 ⌝", "gives the result the name `<`"),
     ("λ (r : ℕ). ⌜ r ≡ g x ⌝", FORM),
     ("λ x. ⌜ x ≡ g 1 ⌝", "another thing's"),
     ("λ now. ⌜ now ≡ g x ⌝", "another thing's"),
