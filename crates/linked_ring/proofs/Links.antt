@@ -2,10 +2,10 @@
 -- cases L1 and L2. Assumes nothing.
 use Prim.Native.Nat.{ℕ, zero, suc, _+_, _≤_, _<_}
 use mathlib.Core.Path.{_≡_, refl, sym, ap, ap₂, subst, _∙_}
-use mathlib.Core.Bool.{Bool, true, false, cond, not, Bool·beq, or-self, true≢false}
-use mathlib.Core.List.{List, [], _∷_}
+use mathlib.Core.Bool.{Bool, true, false, cond, not, _||_, Bool·beq, or-self, true≢false}
+use mathlib.Core.List.{List, [], _∷_, _++_}
 use lib.Dec.{eqb}
-use lib.ListN.{replicate}
+use lib.ListN.{replicate, length-append}
 use mathlib.Core.Logic.{_↔_}
 use native.Mathlib.Numerals.{add-one}
 use native.Mathlib.Omega.{arith}
@@ -17,6 +17,7 @@ use Rattle.trb.specs.Links.{linkOf}
 use Rattle.trb.specs.declared.link.LinkTrb.{LinkTrb}
 use Rattle.trb.specs.declared.link.LinkOrOther.{LinkOrOther}
 use Rattle.linked_ring.specs.Chase.{look, seen, onward, chaseFrom, chase, ended, found, followed, freshOf, noted, unnoted, ringAt, numberOf, valuesOf}
+use Rattle.linked_ring.specs.Hops.{after, linksOf, any, notesOver}
 use Rattle.linked_ring.specs.declared.LinkedRing.{LinkedRing}
 use Rattle.linked_ring.specs.declared.Notes.{Notes}
 use Rattle.linked_ring.specs.declared.Answer.{Answer}
@@ -68,23 +69,26 @@ again m e left r n l p q = ap₂ (chaseFrom m e left) p q
 
 -- ---- hops
 
--- the ring after k hops from e, each by the Link that stands at its place
-abbrev pub hop : LinkOrOther → LinkedRing → LinkedRing
-hop (LinkOrOther.Link l) r = followed r l
-hop LinkOrOther.Other r = r
-
-unfoldable pub after : Memory → ℕ → LinkedRing → LinkedRing
-after m zero e = e
-after m (suc k) e = hop (linkOf (trbAt m (after m k e .place))) (after m k e)
-
--- the notes of k hops from e
-unfoldable pub notesAfter : Memory → ℕ → LinkedRing → Notes
-notesAfter m zero e = unnoted
-notesAfter m (suc k) e = note (linkOf (trbAt m (after m k e .place))) (notesAfter m k e)
+-- one more link in the list is one more that is noted
+any-more : (had : LinkTrb → Bool) (ls : List LinkTrb) (l : LinkTrb) → any had (ls ++ (l ∷ [])) ≡ any had ls || had l
+any-more had [] l = or-none (had l)
   where
-    note : LinkOrOther → Notes → Notes
-    note (LinkOrOther.Link l) n = noted n l
-    note LinkOrOther.Other n = n
+    or-none : (b : Bool) → b || false ≡ b
+    or-none true = refl
+    or-none false = refl
+any-more had (k ∷ ls) l = ap (λ (b : Bool). had k || b) (any-more had ls l) ∙ or-left (had k) (any had ls) (had l)
+  where
+    or-left : (a b c : Bool) → a || (b || c) ≡ (a || b) || c
+    or-left true b c = refl
+    or-left false b c = refl
+
+noted-more : (ls : List LinkTrb) (l : LinkTrb) → noted (notesOver ls) l ≡ notesOver (ls ++ (l ∷ []))
+noted-more ls l =
+    rw (
+      length-append ls (l ∷ []),
+      any-more (λ k. k .«pointer_bits_cleared») ls l,
+      any-more (λ k. k .«interrupt_on_completion») ls l,
+    )
 
 -- k hops from e are by fresh Links alone
 abbrev pub Linked : Memory → LinkedRing → ℕ → Type 0
@@ -93,20 +97,20 @@ Linked m e k = (j : ℕ) → j < k → (l : LinkTrb) × Fresh m (after m j e) (L
 -- k hops from e, by fresh Links alone, lead to r with the notes n
 pub record Way (m : Memory) (e r : LinkedRing) (n : Notes) (k : ℕ) : Type 0 where
   pub there : r ≡ after m k e
-  pub notes : n ≡ notesAfter m k e
+  pub notes : n ≡ notesOver (linksOf m k e)
   pub links : Linked m e k
 
 way-none : (m : Memory) (e : LinkedRing) → Way m e e unnoted 0
-unfolding after notesAfter
+unfolding after linksOf
 way-none m e = record { there = refl; notes = refl; links = below-none _ }
 
 way-more : (m : Memory) (e r : LinkedRing) (n : Notes) (k : ℕ) (l : LinkTrb) → Way m e r n k → Fresh m r (LinkOrOther.Link l)
     → Way m e (followed r l) (noted n l) (k + 1)
-unfolding after notesAfter
+unfolding after linksOf
 way-more m e r n k l w s =
     record {
       there = rw (add-one k, ← w .there, s .is);
-      notes = rw (add-one k, ← w .there, s .is, ← w .notes);
+      notes = rw (add-one k, ← w .there, s .is) (rw (w .notes) (noted-more (linksOf m k e) l));
       links = below-more (λ j. (l : LinkTrb) × Fresh m (after m j e) (LinkOrOther.Link l)) k (w .links) (rw (← w .there) (l, s));
     }
 

@@ -1,1 +1,2 @@
 pub mod Chase
+pub mod Hops
