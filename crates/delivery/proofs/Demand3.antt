@@ -33,7 +33,7 @@ use Rattle.delivery.specs.Demand3 as demand
 use Rattle.delivery.proofs.Queue
 use Rattle.delivery.proofs.Memory.{Same, write-same, trb-same, trb-put}
 use Rattle.delivery.proofs.Walk.{walk, period, away, distinct, slot-apart, slot-within, slot-aligned, some-slots, zero-slot}
-use Rattle.delivery.proofs.Sound.{Kept, sound, next-walk, add-judged, add-invalid, configures}
+use Rattle.delivery.proofs.Sound.{Kept, kept-earlier, sound, next-walk, add-judged, add-invalid, configures}
 use Rattle.delivery.proofs.Tables.{tables}
 use Rattle.delivery.proofs.Readers.{Reads, standard-reads, port-reads}
 
@@ -305,9 +305,8 @@ module _ (s : Setup) (W : Premises s) (R : Reader) (Q : Reads s R) (w : World (R
 -- ---- from the set-up through every list of operations
 
 module _ (s : Setup) (W : Premises s) (R : Reader) (Q : Reads s R) where
-  ring-configured : configured (s .mem) (s .ring) (s .table) (s .entries) ≡ movedTo (walk s 0)
-  unfolding configured walk
-  ring-configured = judge-passes (configureTests (s .mem) (s .table) (s .entries)) (refusedAt (s .ring)) (movedTo (started (s .mem) (s .table) (s .entries))) (configures s W)
+  ring-configured : configured (s .ringMem) (s .ring) (s .table) (s .entries) ≡ movedTo (walk s 0)
+  ring-configured = configures s W (s .ringMem) (kept-earlier s (s .ringMem) (W .ringEarlier)) (s .ring)
 
   start-inv : Inv s R Q (demand.started s R) emptyList
   unfolding walk
@@ -355,11 +354,10 @@ module _ (s : Setup) (W : Premises s) (R : Reader) (Q : Reads s R) where
             );
       }
 
-reader-configured : (s : Setup) → Premises s → readerConfigured (s .mem) (s .reader) (s .table) (s .entries) .refusal ≡ 0
-unfolding readerConfigured configured
+reader-configured : (s : Setup) → Premises s → readerConfigured (s .readerMem) (s .reader) (s .table) (s .entries) .refusal ≡ 0
+unfolding readerConfigured
 reader-configured s W =
-    ap (λ (x : Moved). x .refusal)
-    (judge-passes (configureTests (s .mem) (s .table) (s .entries)) (refusedAt (s .reader .state)) (movedTo (started (s .mem) (s .table) (s .entries))) (configures s W))
+    ap (λ (x : Moved). x .refusal) (configures s W (s .readerMem) (kept-earlier s (s .readerMem) (W .readerEarlier)) (s .reader .state))
 
 pub demand3 : Statement
 unfolding Statement
@@ -368,5 +366,5 @@ demand3 s W =
       ringConfigured = ap (λ (x : Moved). x .refusal) (ring-configured s W (standardReader (s .table) (s .entries)) (standard-reads s W));
       readerIsConfigured = reader-configured s W;
       standard = delivers s W (standardReader (s .table) (s .entries)) (standard-reads s W);
-      port = delivers s W (portReader (readerConfigured (s .mem) (s .reader) (s .table) (s .entries) .reader)) (port-reads s W);
+      port = delivers s W (portReader (readerConfigured (s .readerMem) (s .reader) (s .table) (s .entries) .reader)) (port-reads s W);
     }

@@ -1,24 +1,34 @@
 -- The premises can be met: a table of one segment and one of two, built as bytes. Assumes nothing.
 use Prim.Native.Nat.{ℕ, zero, suc, _+_, _*_, _-_, _<_}
-use mathlib.Core.Path.{_≡_, refl, _∙_, subst}
+use mathlib.Core.Path.{_≡_, refl, sym, _∙_, subst}
 use mathlib.Core.Logic.{_≢_, inl, inr}
 use mathlib.Core.List.{List, [], _∷_, _++_}
 use mathlib.Core.Bool.{true}
 use native.Mathlib.Omega.{arith}
-use lib.ListN.{length, getD, replicate, getD-replicate}
+use native.Mathlib.Nat.{zero-add}
+use lib.ListN.{length, getD, replicate, getD-replicate, List·getD-append}
 use lib.Seq.{getD-append-add}
 use Rattle.guest.specs.Memory.{Memory, byte, inside, le}
 use Rattle.event_ring.specs.Ring.{empty, entryAt, readerAt}
 use Rattle.delivery.proofs.Demand3.{demand3}
-use Rattle.delivery.specs.Demand3.{Setup, base, size, Apart, Segment, Premises, Outside, Demand3, Statement}
+use Rattle.delivery.specs.Demand3.{Setup, base, size, Apart, Segment, Earlier, Premises, Outside, Demand3, Statement}
 
 -- an entry whose base is 0x100 plus lo
 abbrev entry : ℕ → ℕ → List ℕ
 entry lo slots = lo ∷ 1 ∷ 0 ∷ 0 ∷ 0 ∷ 0 ∷ 0 ∷ 0 ∷ slots ∷ 0 ∷ 0 ∷ 0 ∷ 0 ∷ 0 ∷ 0 ∷ 0 ∷ []
 
--- a table at 0 with zeros behind it, ring and reader new
-abbrev tabled : List ℕ → ℕ → ℕ → Setup
-tabled table zeros entries = record { mem = table ++ replicate zeros 0; table = 0; entries = entries; ring = empty; reader = readerAt empty }
+-- a table at 0 with zeros behind it, ring and reader new; the ring was configured in another memory
+abbrev tabled : List ℕ → ℕ → Memory → ℕ → Setup
+tabled table zeros before entries =
+    record {
+      mem = table ++ replicate zeros 0;
+      table = 0;
+      entries = entries;
+      ring = empty;
+      ringMem = before;
+      reader = readerAt empty;
+      readerMem = table ++ replicate zeros 0;
+    }
 
 -- behind the table there are zeros
 behind : (table : List ℕ) (zeros x : ℕ) → length table + (x - length table) ≡ x → x - length table < zeros
@@ -27,10 +37,13 @@ behind table zeros x e h =
     subst (λ (y : ℕ). byte (table ++ replicate zeros 0) y ≡ 0) e
     (getD-append-add table (replicate zeros 0) (x - length table) 0 ∙ getD-replicate zeros (x - length table) 0 0 h)
 
--- ---- one segment of two slots at 0x100
+-- ---- one segment of two slots at 0x100; when the ring was configured the bytes between table and segment were 7
+
+abbrev before : Memory
+before = entry 0 2 ++ (replicate 0xf0 7 ++ replicate 0x20 0)
 
 abbrev pub one : Setup
-one = tabled (entry 0 2) 0x110 1
+one = tabled (entry 0 2) 0x110 before 1
 
 only : (j : ℕ) → j < 1 → j ≡ 0
 only j h = omega arith
@@ -45,6 +58,36 @@ unfolding inside entryAt le
 one-good zero h = record { aligned = refl; some = omega arith; most = omega arith; within = refl }
 one-good (suc j) h = absurd (omega arith)
 
+-- the ring's memory then and the memory now differ between the two
+pub one-differs : byte before 0x10 ≢ byte (one .mem) 0x10
+one-differs e = absurd (omega (arith, e))
+
+segment-before : (i : ℕ) → i < 32 → byte before (256 + i) ≡ 0
+segment-before i u =
+    let there : 16 + (240 + i) ≡ 256 + i = omega arith in
+    subst (λ (y : ℕ). byte before y ≡ 0) there
+    (getD-append-add (entry 0 2) (replicate 0xf0 7 ++ replicate 0x20 0) (240 + i) 0
+    ∙ getD-append-add (replicate 0xf0 7) (replicate 0x20 0) i 0
+    ∙ getD-replicate 0x20 i 0 0 u)
+
+one-earlier : Earlier one before
+unfolding entryAt le
+one-earlier =
+    record {
+      long = refl;
+      table = λ i h.
+          rw (zero-add i)
+          (List·getD-append (entry 0 2) (replicate 0xf0 7 ++ replicate 0x20 0) 0 i h ∙ sym (List·getD-append (entry 0 2) (replicate 0x110 0) 0 i h));
+      segment = λ j h i u. go j h i u;
+    }
+  where
+    go : (j : ℕ) → j < 1 → (i : ℕ) → i < 16 * size one j → byte before (base one j + i) ≡ byte (one .mem) (base one j + i)
+    go zero h i u = segment-before i u ∙ sym (one-zeros zero h i u)
+    go (suc j) h i u = absurd (omega arith)
+
+unchanged : (s : Setup) → Earlier s (s .mem)
+unchanged s = record { long = refl; table = λ i h. refl; segment = λ j h i u. refl }
+
 pub one-met : Premises one
 unfolding inside
 one-met =
@@ -56,12 +99,14 @@ one-met =
       good = one-good;
       zeros = one-zeros;
       segments = λ j k h l n. absurd (omega arith);
+      ringEarlier = one-earlier;
+      readerEarlier = unchanged one;
     }
 
 -- ---- two segments, of one slot at 0x140 and of three at 0x100, the later one first
 
 abbrev pub two : Setup
-two = tabled (entry 0x40 1 ++ entry 0 3) 0x130 2
+two = tabled (entry 0x40 1 ++ entry 0 3) 0x130 ((entry 0x40 1 ++ entry 0 3) ++ replicate 0x130 0) 2
 
 two-zeros : (j : ℕ) → j < 2 → (i : ℕ) → i < 16 * size two j → byte (two .mem) (base two j + i) ≡ 0
 unfolding entryAt le
@@ -96,6 +141,8 @@ two-met =
       good = two-good;
       zeros = two-zeros;
       segments = two-segments;
+      ringEarlier = unchanged two;
+      readerEarlier = unchanged two;
     }
 
 -- so demand 3 holds of both; and there are bytes that may change: those between the first one's table and segment

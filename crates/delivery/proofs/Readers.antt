@@ -22,7 +22,7 @@ use Rattle.event_ring.proofs.Standard.{StandsAt, steps}
 use Rattle.delivery.specs.Demand3.{Setup, base, size, Premises}
 use Rattle.delivery.specs.World.{Found, found, none, Reader, standardReader, portReader, consumed, tookAs}
 use Rattle.delivery.proofs.Walk.{walk, at, on, good-at, first}
-use Rattle.delivery.proofs.Sound.{Sound, Kept, sound, next-walk, table-entry, take-passes, configures}
+use Rattle.delivery.proofs.Sound.{Sound, Kept, kept-earlier, sound, next-walk, table-entry, take-passes, configures}
 
 fresh-yes : (b c : Bool) → b ≡ c → Bool·beq b c ≡ true
 fresh-yes true c e = rw (← e)
@@ -54,11 +54,11 @@ module _ (s : Setup) (W : Premises s) where
   portAt m r p = r .state ≡ walk s p
 
   abbrev configuredReader : EventReader
-  configuredReader = readerConfigured (s .mem) (s .reader) (s .table) (s .entries) .reader
+  configuredReader = readerConfigured (s .readerMem) (s .reader) (s .table) (s .entries) .reader
 
   port-starts : configuredReader .state ≡ walk s 0
-  unfolding readerConfigured configured walk
-  port-starts = rw (judge-passes (configureTests (s .mem) (s .table) (s .entries)) (refusedAt (s .reader .state)) (movedTo (ring.started (s .mem) (s .table) (s .entries))) (configures s W))
+  unfolding readerConfigured
+  port-starts = rw (configures s W (s .readerMem) (kept-earlier s (s .readerMem) (W .readerEarlier)) (s .reader .state))
 
   -- where nothing is refused, a take goes by whether the slot is fresh
   port-take : (m : Memory) → Kept s m → (r : EventReader) (p : ℕ) → portAt m r p → (f : Bool) → freshOf m (r .state) ≡ f

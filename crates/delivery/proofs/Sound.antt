@@ -1,7 +1,7 @@
 -- The ring's operations at a position of the walk, in a memory that keeps the table: nothing is refused but a full ring and an event that is
 -- not valid, and a step leads to the next position. Assumes nothing.
 use Prim.Native.Nat.{ℕ, suc, _+_, _*_, _-_, _%_, _≤_, _<_, _^_}
-use mathlib.Core.Path.{_≡_, refl, sym, ap, _∙_}
+use mathlib.Core.Path.{_≡_, refl, sym, ap, subst, _∙_}
 use mathlib.Core.Bool.{Bool, true, false, not, cond}
 use mathlib.Core.List.{List, [], _∷_}
 use native.Mathlib.Omega.{arith}
@@ -11,17 +11,17 @@ use lib.ListN.{length}
 use lib.Dec.{eqb}
 use borrow.Author.Tests.{eq-eqb, ne-eqb, le-leb, lt-ltb}
 use Rattle.guest.specs.Judge.{Tests, judge}
-use Rattle.guest.specs.Memory.{Memory, inside}
+use Rattle.guest.specs.Memory.{Memory, byte, inside}
 use Prim.{tt}
-use Rattle.guest.proofs.Judge.{Passes}
+use Rattle.guest.proofs.Judge.{Passes, judge-passes}
 use Rattle.guest.proofs.Memory.{inside-le, inside-less, inside-add}
 use Rattle.trb.specs.Events.{valid}
 use Rattle.trb.specs.declared.event.EventTrb.{EventTrb}
-use Rattle.event_ring.specs.Ring.{entryAt, entryOf, goodEntry, countOk, okState, last, nextIndex, entered, along, nextState, entryTests, nextTests, full, addTests, configureTests, freshOf, takeTests}
+use Rattle.event_ring.specs.Ring.{entryAt, entryOf, goodEntry, countOk, okState, last, nextIndex, entered, along, nextState, entryTests, nextTests, full, addTests, configureTests, started, configured, refusedAt, movedTo, freshOf, takeTests}
 use Rattle.event_ring.specs.declared.Entry.{Entry}
 use Rattle.event_ring.specs.declared.EventRing.{EventRing}
 use Rattle.event_ring.proofs.Laws.{judge-then}
-use Rattle.delivery.specs.Demand3.{Setup, base, size, Premises}
+use Rattle.delivery.specs.Demand3.{Setup, base, size, Earlier, Premises}
 use Rattle.delivery.proofs.Memory.{Same, entry-same}
 use Rattle.delivery.proofs.Walk.{walk, at, on, good-at, entry-good, entries-counted}
 
@@ -70,6 +70,13 @@ pub record Kept (s : Setup) (m : Memory) : Type 0 where
   pub len : length m ≡ length (s .mem)
   pub table : Same (s .mem) m (s .table) (16 * s .entries)
 
+pub kept-earlier : (s : Setup) (m : Memory) → Earlier s m → Kept s m
+kept-earlier s m e =
+    record {
+      len = e .long;
+      table = λ x l u. subst (λ (y : ℕ). byte m y ≡ byte (s .mem) y) (omega arith) (e .table (x - s .table) (omega arith));
+    }
+
 inside-same : (m m′ : Memory) (a k : ℕ) → length m′ ≡ length m → inside m a k ≡ true → inside m′ a k ≡ true
 unfolding inside
 inside-same m m′ a k e h = rw e h
@@ -78,23 +85,35 @@ good-same : (m m′ : Memory) (e : Entry) → length m′ ≡ length m → goodE
 unfolding goodEntry inside
 good-same m m′ e l h = rw l h
 
-module _ (s : Setup) (W : Premises s) where
-  -- configuring accepts the set-up
-  pub configures : Passes (configureTests (s .mem) (s .table) (s .entries))
-  configures = (
+module _ (s : Setup) (W : Premises s) (m : Memory) (K : Kept s m) where
+  pub table-entry : (j : ℕ) → j < s .entries → entryOf m (s .table) j ≡ entryOf (s .mem) (s .table) j
+  table-entry j h = entry-same (s .mem) m (s .table + 16 * j) (λ x l u. K .table x (omega arith) (omega arith))
+
+  -- configuring accepts the table, and starts where the walk does
+  first-entry : entryAt m (s .table) ≡ entryAt (s .mem) (s .table)
+  first-entry = rw (add-zero (s .table)) at (table-entry 0 (W .some))
+
+  configure-passes : Passes (configureTests m (s .table) (s .entries))
+  configure-passes = (
     eq-eqb (s .table % 64) 0 (W .aligned),
     (
       entries-counted s W,
       (
-        W .within,
-        (rw (← add-zero (s .table)) (entry-good s W 0 (W .some)), tt),
+        inside-same (s .mem) m (s .table) (16 * s .entries) (K .len) (W .within),
+        (
+          rw first-entry
+              (good-same (s .mem) m (entryAt (s .mem) (s .table)) (K .len) (rw (← add-zero (s .table)) (entry-good s W 0 (W .some)))),
+          tt,
+        ),
       ),
     ),
   )
 
-module _ (s : Setup) (W : Premises s) (m : Memory) (K : Kept s m) where
-  pub table-entry : (j : ℕ) → j < s .entries → entryOf m (s .table) j ≡ entryOf (s .mem) (s .table) j
-  table-entry j h = entry-same (s .mem) m (s .table + 16 * j) (λ x l u. K .table x (omega arith) (omega arith))
+  pub configures : (r : EventRing) → configured m r (s .table) (s .entries) ≡ movedTo (walk s 0)
+  unfolding configured walk
+  configures r =
+      judge-passes (configureTests m (s .table) (s .entries)) (refusedAt r) (movedTo (started m (s .table) (s .entries))) configure-passes
+      ∙ rw first-entry
 
   next-index : (j i : ℕ) (c : Bool) → j < s .entries → nextIndex (at s j i c) < s .entries
   unfolding at nextIndex

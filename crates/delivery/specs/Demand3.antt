@@ -14,14 +14,17 @@ use Rattle.event_ring.specs.declared.EventReader.{EventReader}
 use Rattle.delivery.specs.Plain.{Op, adds, takes, reports, changes, answers, final, Plain, listMachine}
 use Rattle.delivery.specs.World.{Reader, World, ringMachine, standardReader, portReader}
 
--- ---- the set-up: memory, a table by its base and its number of entries, and whatever ring and reader were before
+-- ---- the set-up: memory, a table by its base and its number of entries, whatever ring and reader were before, and the memories in which
+-- they were configured, one after the other
 
 pub record Setup : Type 0 where
   pub mem : Memory
   pub table : ℕ
   pub entries : ℕ
   pub ring : EventRing
+  pub ringMem : Memory
   pub reader : EventReader
+  pub readerMem : Memory
 
 abbrev pub base : Setup → ℕ → ℕ
 base s j = entryOf (s .mem) (s .table) j .base
@@ -48,6 +51,12 @@ pub record Segment (s : Setup) (j : ℕ) : Type 0 where
   pub most : size s j ≤ 4096
   pub within : inside (s .mem) (base s j) (16 * size s j) ≡ true
 
+-- a memory that differs in bytes outside table and segments alone
+pub record Earlier (s : Setup) (m : Memory) : Type 0 where
+  pub long : length m ≡ length (s .mem)
+  pub table : (i : ℕ) → i < 16 * s .entries → byte m (s .table + i) ≡ byte (s .mem) (s .table + i)
+  pub segment : (j : ℕ) → j < s .entries → (i : ℕ) → i < 16 * size s j → byte m (base s j + i) ≡ byte (s .mem) (base s j + i)
+
 -- said in numbers and not by the ring's own tests, so that a slip in those is a slip on one side only
 pub record Premises (s : Setup) : Type 0 where
   -- the table is as refusals 2, 3 and 1 allow
@@ -59,6 +68,9 @@ pub record Premises (s : Setup) : Type 0 where
   -- the segments are zero, and apart from each other; that they are apart from the table follows
   pub zeros : (j : ℕ) → j < s .entries → (i : ℕ) → i < 16 * size s j → byte (s .mem) (base s j + i) ≡ 0
   pub segments : (j k : ℕ) → j < s .entries → k < s .entries → j ≢ k → Apart (base s j) (16 * size s j) (base s k) (16 * size s k)
+  -- other bytes may have changed since ring and reader were configured, and between the two
+  pub ringEarlier : Earlier s (s .ringMem)
+  pub readerEarlier : Earlier s (s .readerMem)
 
 -- ---- what may be done
 
@@ -86,7 +98,7 @@ abbrev pub started : (s : Setup) (R : Reader) → World (R .State)
 started s R =
     record {
       mem = s .mem;
-      ring = configured (s .mem) (s .ring) (s .table) (s .entries) .ring;
+      ring = configured (s .ringMem) (s .ring) (s .table) (s .entries) .ring;
       reader = R .start;
       report = base s 0;
     }
@@ -107,10 +119,10 @@ pub record Delivers (s : Setup) (R : Reader) (ops : List Op) : Type 0 where
 
 -- ring and reader are configured, and the reader is the standard's or the port's
 pub record Demand3 (s : Setup) : Type 0 where
-  pub ringConfigured : configured (s .mem) (s .ring) (s .table) (s .entries) .refusal ≡ 0
-  pub readerIsConfigured : readerConfigured (s .mem) (s .reader) (s .table) (s .entries) .refusal ≡ 0
+  pub ringConfigured : configured (s .ringMem) (s .ring) (s .table) (s .entries) .refusal ≡ 0
+  pub readerIsConfigured : readerConfigured (s .readerMem) (s .reader) (s .table) (s .entries) .refusal ≡ 0
   pub standard : (ops : List Op) → AllAllowed s ops → Delivers s (standardReader (s .table) (s .entries)) ops
-  pub port : (ops : List Op) → AllAllowed s ops → Delivers s (portReader (readerConfigured (s .mem) (s .reader) (s .table) (s .entries) .reader)) ops
+  pub port : (ops : List Op) → AllAllowed s ops → Delivers s (portReader (readerConfigured (s .readerMem) (s .reader) (s .table) (s .entries) .reader)) ops
 
 unfoldable pub Statement : Type 0
 Statement = (s : Setup) → Premises s → Demand3 s
