@@ -9,6 +9,7 @@ use crate::script::{named, MEMORY_LIMIT};
 use crate::trbs::Kind;
 use crate::world::zeroed;
 use lomvigast::{GuestMemory, GuestMemoryMut};
+use std::collections::HashMap;
 use std::fmt::Display;
 use std::fs::File;
 use std::io::Read;
@@ -93,6 +94,7 @@ impl Capture {
     /// The capture in a folder.
     pub fn of_folder(folder: &Path, length: usize) -> Result<Self, Stop> {
         let mut memory = zeroed(length).map_err(Stop::Misuse)?;
+        let mut listed = HashMap::new();
         each_line(&folder.join("trbs.txt"), |words| {
             let address = words.number("ADDRESS")?;
             let bytes = words.hex("BYTES")?;
@@ -102,7 +104,11 @@ impl Capture {
             let written = GuestMemoryMut::new(&mut memory).write_trb(address, &trb);
             written.map_err(|_| {
                 format!("{address:#x} is beyond the {length} bytes of guest memory (see --length)")
-            })
+            })?;
+            match listed.insert(address, trb).filter(|before| *before != trb) {
+                Some(_) => Err(format!("{address:#x} was listed before, with other bytes")),
+                None => Ok(()),
+            }
         })?;
         let mut table = None;
         let mut rings = Vec::new();

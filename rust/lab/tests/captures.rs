@@ -223,6 +223,11 @@ const BROKEN: &[(&str, &str, &str)] = &[
     ("trbs.txt", "\n0x10 0000", "line 2: 16 bytes, not 2"),
     (
         "trbs.txt",
+        "0x0 00000000 00000000 00000000 00000000\n0x0 00000000 00000000 00000000 01000000",
+        "line 2: 0x0 was listed before",
+    ),
+    (
+        "trbs.txt",
         "0x08000000 00000000 00000000 00000000 00000000",
         "beyond the 134217728 bytes",
     ),
