@@ -160,7 +160,7 @@ fn joined(lines: &[Line]) -> String {
 }
 
 /// Whether a type follows a name: a colon, perhaps after level parameters in braces.
-fn has_type(after: &[Word]) -> bool {
+pub fn has_type(after: &[Word]) -> bool {
     let levels = match after.first() {
         Some(word) if word.text == "{" => {
             after.iter().take_while(|word| word.text != "}").count() + 1

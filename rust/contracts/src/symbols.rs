@@ -1,6 +1,7 @@
 //! Sees to it that the symbols of the contracts mean what the library says: no file defines one of them anew, takes
 //! one from another place, or gives its name to something else. Other names are the library's or of specs/.
 
+use crate::declared::has_type;
 use crate::fault::Fault;
 use crate::lex::{antt, bare, Word};
 
@@ -68,17 +69,6 @@ fn definitions(file: &str, words: &[Word]) -> Vec<Fault> {
         }
     }
     found
-}
-
-/// Whether a type follows a name: a colon, perhaps after level parameters in braces.
-fn has_type(after: &[Word]) -> bool {
-    let levels = match after.first() {
-        Some(word) if word.text == "{" => {
-            after.iter().take_while(|word| word.text != "}").count() + 1
-        }
-        _ => 0,
-    };
-    after.get(levels).is_some_and(|word| word.text == ":")
 }
 
 /// Renamings of something to a symbol or to a library, in any line that can rename.
