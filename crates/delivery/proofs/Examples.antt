@@ -37,10 +37,10 @@ behind table zeros x e h =
     subst (λ (y : ℕ). byte (table ++ replicate zeros 0) y ≡ 0) e
     (getD-append-add table (replicate zeros 0) (x - length table) 0 ∙ getD-replicate zeros (x - length table) 0 0 h)
 
--- ---- one segment of two slots at 0x100; when the ring was configured the bytes between table and segment were 7
+-- ---- one segment of two slots at 0x100; when the ring was configured all bytes behind the table were 7
 
 abbrev before : Memory
-before = entry 0 2 ++ (replicate 0xf0 7 ++ replicate 0x20 0)
+before = entry 0 2 ++ replicate 0x110 7
 
 abbrev pub one : Setup
 one = tabled (entry 0 2) 0x110 before 1
@@ -58,35 +58,21 @@ unfolding inside entryAt le
 one-good zero h = record { aligned = refl; some = omega arith; most = omega arith; within = refl }
 one-good (suc j) h = absurd (omega arith)
 
--- the ring's memory then and the memory now differ between the two
+-- that memory and the one at the start differ
 pub one-differs : byte before 0x10 ≢ byte (one .mem) 0x10
 one-differs e = absurd (omega (arith, e))
 
-segment-before : (i : ℕ) → i < 32 → byte before (256 + i) ≡ 0
-segment-before i u =
-    let there : 16 + (240 + i) ≡ 256 + i = omega arith in
-    subst (λ (y : ℕ). byte before y ≡ 0) there
-    (getD-append-add (entry 0 2) (replicate 0xf0 7 ++ replicate 0x20 0) (240 + i) 0
-    ∙ getD-append-add (replicate 0xf0 7) (replicate 0x20 0) i 0
-    ∙ getD-replicate 0x20 i 0 0 u)
-
 one-earlier : Earlier one before
-unfolding entryAt le
 one-earlier =
     record {
       long = refl;
       table = λ i h.
           rw (zero-add i)
-          (List·getD-append (entry 0 2) (replicate 0xf0 7 ++ replicate 0x20 0) 0 i h ∙ sym (List·getD-append (entry 0 2) (replicate 0x110 0) 0 i h));
-      segment = λ j h i u. go j h i u;
+          (List·getD-append (entry 0 2) (replicate 0x110 7) 0 i h ∙ sym (List·getD-append (entry 0 2) (replicate 0x110 0) 0 i h));
     }
-  where
-    go : (j : ℕ) → j < 1 → (i : ℕ) → i < 16 * size one j → byte before (base one j + i) ≡ byte (one .mem) (base one j + i)
-    go zero h i u = segment-before i u ∙ sym (one-zeros zero h i u)
-    go (suc j) h i u = absurd (omega arith)
 
 unchanged : (s : Setup) → Earlier s (s .mem)
-unchanged s = record { long = refl; table = λ i h. refl; segment = λ j h i u. refl }
+unchanged s = record { long = refl; table = λ i h. refl }
 
 pub one-met : Premises one
 unfolding inside

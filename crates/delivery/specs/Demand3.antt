@@ -51,11 +51,10 @@ pub record Segment (s : Setup) (j : ℕ) : Type 0 where
   pub most : size s j ≤ 4096
   pub within : inside (s .mem) (base s j) (16 * size s j) ≡ true
 
--- a memory that differs in bytes outside table and segments alone
+-- a memory of the same length with the same table; what stands elsewhere then is not asked
 pub record Earlier (s : Setup) (m : Memory) : Type 0 where
   pub long : length m ≡ length (s .mem)
   pub table : (i : ℕ) → i < 16 * s .entries → byte m (s .table + i) ≡ byte (s .mem) (s .table + i)
-  pub segment : (j : ℕ) → j < s .entries → (i : ℕ) → i < 16 * size s j → byte m (base s j + i) ≡ byte (s .mem) (base s j + i)
 
 -- said in numbers and not by the ring's own tests, so that a slip in those is a slip on one side only
 pub record Premises (s : Setup) : Type 0 where
@@ -68,7 +67,7 @@ pub record Premises (s : Setup) : Type 0 where
   -- the segments are zero, and apart from each other; that they are apart from the table follows
   pub zeros : (j : ℕ) → j < s .entries → (i : ℕ) → i < 16 * size s j → byte (s .mem) (base s j + i) ≡ 0
   pub segments : (j k : ℕ) → j < s .entries → k < s .entries → j ≢ k → Apart (base s j) (16 * size s j) (base s k) (16 * size s k)
-  -- other bytes may have changed since ring and reader were configured, and between the two
+  -- other bytes may have changed since ring and reader were configured, and between the two; the segments are zero by now
   pub ringEarlier : Earlier s (s .ringMem)
   pub readerEarlier : Earlier s (s .readerMem)
 

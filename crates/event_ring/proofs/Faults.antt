@@ -10,20 +10,24 @@ use native.Mathlib.Omega.{arith}
 use native.Mathlib.Nat.{add-zero, div-one}
 use borrow.Author.Tests.{ltb-true, ltb-false, leb-true, leb-false, eqb-true, eqb-false, lt-ltb, le-ltb, eq-eqb, ne-eqb}
 use lib.Dec.{leb, ltb, eqb}
-use lib.ListN.{length}
+use lib.ListN.{length, replicate}
 use Rattle.guest.specs.Judge.{Tests, judge, refusalOf}
-use Rattle.guest.specs.Memory.{Memory, inside, le, trbAt}
-use Rattle.guest.proofs.Judge.{judge-refusal}
+use Rattle.guest.specs.Memory.{Memory, inside, le, part, trbAt, write}
+use Rattle.guest.proofs.Judge.{judge-refusal, judge-by, judge-passes, answer-passes}
+use Rattle.guest.proofs.Memory.{inside-le, write-length, write-there, write-elsewhere}
 use Rattle.trb.specs.Trb.{cycleOf}
-use Rattle.trb.specs.Events.{valid, eventTests}
+use Rattle.trb.specs.Events.{valid, eventTests, eventBytes}
+use Rattle.trb.proofs.OneEncoding.{bytes-length}
 use Rattle.trb.specs.declared.event.EventTrb.{EventTrb}
-use Rattle.event_ring.specs.Ring.{entryAt, goodEntry, countOk, okState, last, nextIndex, nextState, entryTests, nextTests, configureTests, started, configured, refusedAt, movedTo, full, stepTests, addTests, added, freshOf, takeTests, takeRefused, take, numberOf}
-use Rattle.event_ring.specs.Faults.{Not, Faults, FirstOf, none, this, later, Inside, Allowed, Counted, Limits, Fits, Last, Full, Fresh, configureFaults, addFaults, takeFaults}
+use Rattle.event_ring.specs.Ring.{entryAt, goodEntry, countOk, okState, last, nextIndex, nextState, entryTests, nextTests, configureTests, started, configured, refusedAt, movedTo, full, stepTests, addTests, added, addedMemory, empty, readerConfigured, freshOf, takeTests, takeRefused, take, numberOf}
+use Rattle.event_ring.specs.Faults.{Not, Faults, FirstOf, none, this, later, Inside, Allowed, Counted, Limits, Fits, Last, Full, Fresh, configureFaults, addFaults, takeFaults, refusedWith, Writes}
 use Rattle.event_ring.specs.Faults as paper
 use Rattle.event_ring.specs.declared.EventRing.{EventRing}
 use Rattle.event_ring.specs.declared.EventReader.{EventReader}
 use Rattle.event_ring.specs.declared.Moved.{Moved}
+use Rattle.event_ring.specs.declared.Take.{Take}
 use Rattle.event_ring.specs.declared.Taken.{Taken}
+use Rattle.event_ring.proofs.Laws.{add-numbered}
 use Rattle.event_ring.proofs.Standard.{given, given-number}
 
 -- ---- a test says a fact: it passes exactly if the fact holds
@@ -125,6 +129,16 @@ configure-refused m s table entries =
     (λ _. asks (inside m table (16 * entries)) 1 (says-inside m table (16 * entries))
     (λ _. asks (goodEntry m (entryAt m table)) 5 (says-allowed m table) (λ _. none)))))
 
+pub reader-configure-refused : (m : Memory) (r : EventReader) (table entries : ℕ)
+    → FirstOf (configureFaults m table entries) (readerConfigured m r table entries .refusal)
+unfolding readerConfigured
+reader-configure-refused m r table entries = configure-refused m (r .state) table entries
+
+-- ---- never configured, or reset: refused with 4
+
+pub never-configured : Not (Limits empty)
+never-configured l = true≢false (sym (l .ready))
+
 -- ---- add
 
 -- the last test, whose fact must not hold
@@ -214,14 +228,54 @@ module _ (m : Memory) (s : EventRing) where
           let stale = says .1 h in
           asks-not (λ c. stale (c .0)) (asks-not (λ c. stale (c .0)) none)
 
-pub take-refused : (m : Memory) (r : EventReader) → FirstOf (takeFaults m (r .state)) (numberOf (take m r .answer))
+number-read : (t : Take) → numberOf t ≡ refusedWith t
+number-read (Take.Refused n) = refl
+number-read Take.Event = refl
+number-read Take.Nothing = refl
+
+pub take-refused : (m : Memory) (r : EventReader) → FirstOf (takeFaults m (r .state)) (refusedWith (take m r .answer))
 unfolding take judge
 take-refused m r =
     subst (FirstOf (takeFaults m (r .state)))
-    (sym (judge-refusal (λ (x : Taken). numberOf (x .answer)) (takeTests m (r .state)) (takeRefused r) (given m r (freshOf m (r .state))) (λ n. refl) (given-number m r (freshOf m (r .state)))))
+    (sym (judge-refusal (λ (x : Taken). numberOf (x .answer)) (takeTests m (r .state)) (takeRefused r) (given m r (freshOf m (r .state))) (λ n. refl) (given-number m r (freshOf m (r .state)))) ∙ number-read (take m r .answer))
     (asks (okState (r .state)) 4 (says-limits (r .state))
     (λ l. asks (inside m (r .state .place) 16) 1 (says-inside m (r .state .place) 16)
     (λ _. enter-refused m (r .state) l)))
+
+-- beside a refusal, and beside "none", there is nothing to show, and the reader is as it was
+pub record Nothing (r : EventReader) (t : Taken) : Type 0 where
+  pub trb : t .trb ≡ replicate 16 0
+  pub reader : t .reader ≡ r
+
+pub take-shows-nothing : (m : Memory) (r : EventReader) → (take m r .answer ≡ Take.Event → ⊥) → Nothing r (take m r)
+unfolding take
+take-shows-nothing m r =
+    judge-by (λ (t : Taken). (t .answer ≡ Take.Event → ⊥) → Nothing r t) (takeTests m (r .state)) (takeRefused r) (given m r (freshOf m (r .state)))
+    (λ n h. record { trb = refl; reader = refl })
+    (λ p. go (freshOf m (r .state)))
+  where
+    go : (f : Bool) → (given m r f .answer ≡ Take.Event → ⊥) → Nothing r (given m r f)
+    go true h = absurd (h refl)
+    go false h = record { trb = refl; reader = refl }
+
+-- ---- an accepted add writes the event, and no other byte
+
+pub add-writes : (m : Memory) (s : EventRing) (e : EventTrb) (report : ℕ) → added m s e report .refusal ≡ 0
+    → Writes m (addedMemory m s e report) (s .place) (eventBytes e (s .cycle))
+unfolding added addedMemory
+add-writes m s e report h =
+    let p =
+    answer-passes (λ (x : Moved). x .refusal) (addTests m s e report) (add-numbered m s e report) (refusedAt s) (movedTo (nextState m s)) (λ n. refl) refl
+    (added m s e report) refl h in
+    let room = inside-le m (s .place) 16 (p .1 .1 .1 .0) in
+    let size = bytes-length e (s .cycle) in
+    let fits : s .place + length (eventBytes e (s .cycle)) ≤ length m = rw size room in
+    rw (judge-passes (addTests m s e report) (λ n. m) (write m (s .place) (eventBytes e (s .cycle))) p)
+    (record {
+      long = write-length m (s .place) (eventBytes e (s .cycle)) fits;
+      there = ap (part (write m (s .place) (eventBytes e (s .cycle))) (s .place)) (sym size) ∙ write-there m (s .place) (eventBytes e (s .cycle)) fits;
+      elsewhere = λ i o. write-elsewhere m (s .place) (eventBytes e (s .cycle)) fits i (rw size o);
+    })
 
 -- ---- no second number is that of the first fault
 

@@ -7,10 +7,11 @@ use mathlib.Core.Bool.{true, cond}
 use mathlib.Core.List.{List, [], _∷_}
 use lib.ListN.{length}
 use lib.Dec.{ltb}
-use Rattle.guest.specs.Memory.{Memory, le, trbAt}
+use Rattle.guest.specs.Memory.{Memory, byte, le, trbAt}
 use Rattle.trb.specs.Trb.{cycleOf}
 use Rattle.trb.specs.declared.event.EventTrb.{EventTrb}
 use Rattle.event_ring.specs.declared.EventRing.{EventRing}
+use Rattle.event_ring.specs.declared.Take.{Take}
 
 -- ---- faults in their order
 
@@ -108,3 +109,16 @@ takeFaults m s =
     ∷ (1, (Fresh m s × Last s) × Not (Inside m (nextEntry s) 16))
     ∷ (5, (Fresh m s × Last s) × Not (Allowed m (nextEntry s)))
     ∷ []
+
+-- the number that a take was refused with, 0 for none
+abbrev pub refusedWith : Take → ℕ
+refusedWith (Take.Refused n) = n
+refusedWith Take.Event = 0
+refusedWith Take.Nothing = 0
+
+-- ---- what an accepted add writes: the event's sixteen bytes in the present slot, and no other byte
+
+pub record Writes (m after : Memory) (place : ℕ) (bytes : List ℕ) : Type 0 where
+  pub long : length after ≡ length m
+  pub there : trbAt after place ≡ bytes
+  pub elsewhere : (i : ℕ) → (i < place) ⊎ (place + 16 ≤ i) → byte after i ≡ byte m i

@@ -17,7 +17,7 @@ use Rattle.trb.specs.Links.{linkOf}
 use Rattle.trb.specs.declared.link.LinkTrb.{LinkTrb}
 use Rattle.trb.specs.declared.link.LinkOrOther.{LinkOrOther}
 use Rattle.linked_ring.specs.Chase.{look, seen, onward, chaseFrom, chase, ended, found, followed, freshOf, noted, unnoted, ringAt, numberOf, valuesOf}
-use Rattle.linked_ring.specs.Hops.{after, linksOf, any, notesOver}
+use Rattle.linked_ring.specs.Hops.{IsFresh, hop, after, linksOf, any, notesOver}
 use Rattle.linked_ring.specs.declared.LinkedRing.{LinkedRing}
 use Rattle.linked_ring.specs.declared.Notes.{Notes}
 use Rattle.linked_ring.specs.declared.Answer.{Answer}
@@ -30,13 +30,43 @@ pub record Outside (m : Memory) (r : LinkedRing) : Type 0 where
 
 pub record Stale (m : Memory) (r : LinkedRing) : Type 0 where
   pub within : inside m (r .place) 16 ≡ true
-  pub stale : freshOf (r .cycle) (trbAt m (r .place)) ≡ false
+  pub stale : IsFresh m r → ⊥
 
 -- a fresh TRB, a Link or another
 pub record Fresh (m : Memory) (r : LinkedRing) (kind : LinkOrOther) : Type 0 where
   pub within : inside m (r .place) 16 ≡ true
-  pub fresh : freshOf (r .cycle) (trbAt m (r .place)) ≡ true
+  pub fresh : IsFresh m r
   pub is : linkOf (trbAt m (r .place)) ≡ kind
+
+-- what the code tests is that
+beq-yes : (a b : Bool) → a ≡ b → Bool·beq a b ≡ true
+beq-yes true b e = rw (← e)
+beq-yes false b e = rw (← e)
+
+beq-no : (a b : Bool) → (a ≡ b → ⊥) → Bool·beq a b ≡ false
+beq-no true true n = absurd (n refl)
+beq-no true false n = refl
+beq-no false true n = refl
+beq-no false false n = absurd (n refl)
+
+yes-beq : (a b : Bool) → Bool·beq a b ≡ true → a ≡ b
+yes-beq true true h = refl
+yes-beq true false h = absurd (true≢false (sym h))
+yes-beq false true h = absurd (true≢false (sym h))
+yes-beq false false h = refl
+
+no-beq : (a b : Bool) → Bool·beq a b ≡ false → a ≡ b → ⊥
+no-beq a b h e = true≢false (sym (beq-yes a b e) ∙ h)
+
+-- and the ring that the code follows a Link to
+hopped : (r : LinkedRing) (l : LinkTrb) → followed r l ≡ hop (LinkOrOther.Link l) r
+hopped r l = go (r .cycle) (l .«toggle_cycle») refl refl
+  where
+    go : (c t : Bool) → r .cycle ≡ c → l .«toggle_cycle» ≡ t → followed r l ≡ hop (LinkOrOther.Link l) r
+    go true true p q = rw (p, q)
+    go true false p q = rw (p, q)
+    go false true p q = rw (p, q)
+    go false false p q = rw (p, q)
 
 -- the four ways that a look goes
 module _ (m : Memory) (e r : LinkedRing) (n : Notes) (k : LinkTrb → Chase) where
@@ -51,15 +81,15 @@ module _ (m : Memory) (e r : LinkedRing) (n : Notes) (k : LinkTrb → Chase) whe
       go : (x y : Bool) (z : LinkOrOther) → inside m (r .place) 16 ≡ x → freshOf (r .cycle) (trbAt m (r .place)) ≡ y → linkOf (trbAt m (r .place)) ≡ z
           → P (seen x y z (trbAt m (r .place)) e r n k)
       go false y z p q s = out (record { outside = p })
-      go true false z p q s = stale (record { within = p; stale = q })
-      go true true LinkOrOther.Other p q s = other (record { within = p; fresh = q; is = s })
-      go true true (LinkOrOther.Link l) p q s = link l (record { within = p; fresh = q; is = s })
+      go true false z p q s = stale (record { within = p; stale = no-beq _ _ q })
+      go true true LinkOrOther.Other p q s = other (record { within = p; fresh = yes-beq _ _ q; is = s })
+      go true true (LinkOrOther.Link l) p q s = link l (record { within = p; fresh = yes-beq _ _ q; is = s })
 
   look-link : (l : LinkTrb) → Fresh m r (LinkOrOther.Link l) → look m e r n k ≡ k l
-  look-link l s = rw (s .within, s .fresh, s .is)
+  look-link l s = rw (s .within, beq-yes (cycleOf (trbAt m (r .place))) (r .cycle) (s .fresh), s .is)
 
   look-stale : Stale m r → look m e r n k ≡ ended Answer.NothingNew r n
-  look-stale s = rw (s .within, s .stale)
+  look-stale s = rw (s .within, beq-no (cycleOf (trbAt m (r .place))) (r .cycle) (s .stale))
 
 -- a link that is followed
 again : (m : Memory) (e : LinkedRing) (left : ℕ) (r : LinkedRing) (n : Notes) (l : LinkTrb) {r′ : LinkedRing} {n′ : Notes} → followed r l ≡ r′ → noted n l ≡ n′
@@ -109,7 +139,7 @@ way-more : (m : Memory) (e r : LinkedRing) (n : Notes) (k : ℕ) (l : LinkTrb) �
 unfolding after linksOf
 way-more m e r n k l w s =
     record {
-      there = rw (add-one k, ← w .there, s .is);
+      there = rw (add-one k, ← w .there, s .is) (hopped r l);
       notes = rw (add-one k, ← w .there, s .is) (rw (w .notes) (noted-more (linksOf m k e) l));
       links = below-more (λ j. (l : LinkTrb) × Fresh m (after m j e) (LinkOrOther.Link l)) k (w .links) (rw (← w .there) (l, s));
     }
@@ -164,7 +194,7 @@ chase-ends m r =
 pub never-nothing : (m : Memory) (r : LinkedRing) (l : LinkTrb) → Fresh m (chase m r .ring) (LinkOrOther.Link l) → chase m r .answer ≡ Answer.NothingNew → ⊥
 never-nothing m r l s a =
     let told = subst (Ending m r 256 (chase m r)) a (chase-ends m r .ending) in
-    true≢false (sym (s .fresh) ∙ told .0 .stale)
+    told .0 .stale (s .fresh)
 
 -- "too many links" is answered exactly if a fresh Link stands at the place of the entry and after each of the first 256 hops
 abbrev pub EndlessLinks : Memory → LinkedRing → Type 0
@@ -195,7 +225,7 @@ module _ (m : Memory) (r : LinkedRing) where
   ended-so c Answer.NothingNew e p all =
       let o = rw p at (e .ending) in
       let s = all (c .notes .links) (e .bounded) in
-      absurd (true≢false (sym (s .1 .fresh) ∙ (rw (e .way .there) at (o .0 .stale))))
+      absurd (o .0 .stale (rw (e .way .there) (s .1 .fresh)))
   ended-so c Answer.TooManyLinks e p all = refl
   ended-so c (Answer.Refused n) e p all =
       let o = rw p at (e .ending) in
@@ -222,11 +252,9 @@ toggled true = refl
 toggled false = refl
 
 -- a state flipped makes fresh stale
-beq-not : (b c : Bool) → Bool·beq b (not c) ≡ not (Bool·beq b c)
-beq-not true true = refl
-beq-not true false = refl
-beq-not false true = refl
-beq-not false false = refl
+not-self : (c : Bool) → c ≡ not c → ⊥
+not-self true e = true≢false e
+not-self false e = true≢false (sym e)
 
 module _ (m : Memory) (r : LinkedRing) (l : LinkTrb) (it : Itself m r l) where
   stays : l .«toggle_cycle» ≡ false → followed r l ≡ r
@@ -264,7 +292,7 @@ module _ (m : Memory) (r : LinkedRing) (l : LinkTrb) (it : Itself m r l) where
       let flipped = ringAt (r .place) (not (r .cycle)) in
       first flipped (turns t)
       ∙ look-stale m r flipped (notesOf 1 l) (onward m r 255 flipped (notesOf 1 l))
-      (record { within = it .stands .within; stale = beq-not (cycleOf (trbAt m (r .place))) (r .cycle) ∙ ap not (it .stands .fresh) })
+      (record { within = it .stands .within; stale = λ (e : cycleOf (trbAt m (r .place)) ≡ not (r .cycle)). not-self (r .cycle) (sym (it .stands .fresh) ∙ e) })
 
 -- ---- number and values tell the answers apart
 

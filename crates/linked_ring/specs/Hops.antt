@@ -1,19 +1,25 @@
--- The way that a chase goes, told hop by hop, and its notes a second time: over the list of the links that were followed.
+-- The way that a chase goes, told hop by hop, and its notes a second time: over the list of the links that were followed. Nothing of Chase.antt
+-- is cited here, so that a slip there is a slip on one side only.
 use Prim.Native.Nat.{ℕ, zero, suc}
 use mathlib.Core.List.{List, [], _∷_, _++_}
-use mathlib.Core.Bool.{Bool, false, _||_}
+use mathlib.Core.Path.{_≡_}
+use mathlib.Core.Bool.{Bool, false, cond, not, _||_}
 use lib.ListN.{length}
 use Rattle.guest.specs.Memory.{Memory, trbAt}
 use Rattle.trb.specs.Links.{linkOf}
 use Rattle.trb.specs.declared.link.LinkTrb.{LinkTrb}
 use Rattle.trb.specs.declared.link.LinkOrOther.{LinkOrOther}
-use Rattle.linked_ring.specs.Chase.{followed}
+use Rattle.trb.specs.Trb.{cycleOf}
 use Rattle.linked_ring.specs.declared.LinkedRing.{LinkedRing}
 use Rattle.linked_ring.specs.declared.Notes.{Notes}
 
--- a hop by the Link that stands at the ring's place
+-- what stands at the ring's place is fresh if its cycle bit equals the state
+abbrev pub IsFresh : Memory → LinkedRing → Type 0
+IsFresh m r = cycleOf (trbAt m (r .place)) ≡ r .cycle
+
+-- a hop by the Link that stands there: to its pointer, with the state flipped if toggle is set
 abbrev pub hop : LinkOrOther → LinkedRing → LinkedRing
-hop (LinkOrOther.Link l) r = followed r l
+hop (LinkOrOther.Link l) r = record { place = l .«ring_segment_pointer»; cycle = cond (l .«toggle_cycle») (not (r .cycle)) (r .cycle) }
 hop LinkOrOther.Other r = r
 
 -- the ring after k hops from e

@@ -10,7 +10,12 @@ use crate::pages::{in_backticks, section};
 use crate::tree::{Tree, PROMISES, THEOREMS};
 
 const TABLE: &str = "Theorems that belong to no function";
-const AFTER: [&str; 2] = ["Demands", "Wrong programs, and what stops each"];
+const AFTER: [&str; 4] = [
+    "Demands",
+    "Document 01, line by line",
+    "Wrong programs, and what stops each",
+    "What stops a slip in definition and code alike",
+];
 
 /// A row of the table: the names in backticks, and the files.
 #[derive(Debug, PartialEq, Eq)]
