@@ -1,39 +1,27 @@
-//! rust/lomvigast/archives, from which `./lomvigast` and the build of rust/lomvigast have the archives. A stand-in answers
-//! for `rt`, so that nothing is proved here.
+//! rust/lomvigast/archives, from which `./lomvigast` and the build of rust/lomvigast have the archives. Nothing is proved
+//! here: stand_in/rt answers for `rt`.
 
 use super::{append, copy, empty, lomvigast, path_without, remove, repository, said};
-use super::{stops, sums_hold, target, unused, waits};
-use std::os::unix::fs::PermissionsExt;
+use super::{stops, sums_hold, target, waits};
 use std::path::{Path, PathBuf};
 use std::process::Command;
 use std::{env, fs};
 
-/// Writes an archive where one is asked for, the one in the folder ARCHIVES if that is set; refuses the crate that REFUSES names;
-/// and tells the file PLACES where it works and on what.
-const STAND_IN: &str = r#"#!/bin/sh
-case $1 in
-version) echo 'a stand-in'; exit ;;
-staticlib)
-    mkdir -p target/staticlib
-    cat "${ARCHIVES:-/dev/null}${ARCHIVES:+/lib$2.a}" >"target/staticlib/lib$2.a"
-    ;;
-esac
-for place in . crates crates.txt target/rlib target/stamp; do readlink -f "$place"; done >>"$PLACES"
-echo "the stand-in's words on $2" >&2
-[ "$2" != "$REFUSES" ]
-"#;
-
+/// What is run has the stand-in for `rt`.
 fn with_stand_in(mut command: Command) -> Command {
-    let folder = unused("stand_in");
-    let rt = folder.join("rt");
-    fs::write(&rt, STAND_IN).expect("a stand-in");
-    fs::set_permissions(&rt, fs::Permissions::from_mode(0o755)).expect("a stand-in");
+    let folder = repository().join("rust/lab/tests/first_minutes/stand_in");
     let path = env::var_os("PATH").expect("PATH is set");
-    let folders = [folder.clone()].into_iter().chain(env::split_paths(&path));
+    let folders = [folder].into_iter().chain(env::split_paths(&path));
     command.env("PATH", env::join_paths(folders).expect("a path"));
-    command.env("PLACES", folder.join("places"));
-    command.env("REFUSES", "").env_remove("ARCHIVES");
-    command.env_remove("LOMVIGAST_ARCHIVE");
+    for name in [
+        "ARCHIVES",
+        "CHANGES",
+        "NOTES",
+        "REFUSES",
+        "LOMVIGAST_ARCHIVE",
+    ] {
+        command.env_remove(name);
+    }
     command
 }
 
@@ -77,31 +65,32 @@ lomvigast: proving lomvigast_ffi (8 of 8)
 fn the_core_is_proved_crate_by_crate_and_once() {
     for jobs in ["1", "2"] {
         let target = empty(&format!("proved by {jobs}"));
-        let places = target.join("places");
+        let (notes, work) = (target.join("notes"), target.join("work"));
+        fs::create_dir(&work).expect("a folder for the test");
         let mut first = archives(&target);
-        first.env("RT_JOBS", jobs).env("PLACES", &places);
+        first.env("RT_JOBS", jobs);
+        first.env("NOTES", &notes).env("TMPDIR", &work);
         let (status, folder, progress) = said(&mut first);
         assert_eq!((status, progress.as_str()), (Some(0), PROGRESS));
         let folder = Path::new(folder.trim_end());
         let name = folder.file_name().and_then(|name| name.to_str());
         let name = name.expect("text").replace('-', " ");
         let version = fs::read_to_string(folder.join("VERSION")).expect("the version");
-        assert_eq!(
-            version,
-            format!("lomvigast {name}\nproved with a stand-in\n")
-        );
+        let line = format!("lomvigast {name}\nproved with a stand-in\n");
+        assert_eq!(version, line);
         sums_hold(folder, 3);
 
         let mut second = archives(&target);
         second.env("PATH", path_without(&["rt"]));
         assert_eq!(said(&mut second), taken(folder));
 
-        // All that `rt` works on stands in the target folder, and nothing of it in the checkout.
-        let places = fs::read_to_string(places).expect("the stand-in's places");
-        assert_eq!(places.lines().count(), 8 * 5);
-        for place in places.lines() {
-            assert!(Path::new(place).starts_with(&target), "{place}");
+        // `rt` writes nothing to the checkout: it works in a temporary folder, and that is gone.
+        let notes = fs::read_to_string(notes).expect("the stand-in's notes");
+        assert_eq!(notes.lines().count(), 8 * 4);
+        for place in notes.lines() {
+            assert!(Path::new(place).starts_with(&work), "{place}");
         }
+        assert_eq!(fs::read_dir(work).expect("the folder").count(), 0);
     }
 }
 
@@ -132,9 +121,29 @@ fn a_crate_that_is_not_proved_is_told_and_no_archive_is_left_to_take() {
             "{fault}"
         );
         let mut again = archives(&target);
-        again.env("PATH", path_without(&["rt"]));
-        stops(&mut again, NO_RT);
+        stops(again.env("PATH", path_without(&["rt"])), NO_RT);
     }
+}
+
+#[test]
+fn what_was_proved_is_kept() {
+    let target = empty("kept");
+    let mut first = archives(&target);
+    assert_eq!(said(first.env("REFUSES", "linked_ring")).0, Some(1));
+    let mut second = archives(&target);
+    let notes = target.join("notes");
+    assert_eq!(said(second.env("NOTES", &notes)).0, Some(0));
+    let notes = fs::read_to_string(notes).expect("the stand-in's notes");
+    let again = notes.lines().filter(|line| line.ends_with(" once more"));
+    let mut again: Vec<_> = again.collect();
+    again.sort_unstable();
+    let proved = [
+        "codes once more",
+        "guest once more",
+        "trb once more",
+        "words once more",
+    ];
+    assert_eq!(again, proved);
 }
 
 #[test]
@@ -158,7 +167,7 @@ fn cargo_alone_builds_once() {
         data.modified().expect("its time")
     };
     let first = built(&mut cargo());
-    assert!(target.join("lomvigast/core").exists());
+    assert!(target.join("lomvigast/proved.tar").exists());
     assert_eq!(built(&mut cargo()), first);
 
     // The archives are there for every profile and for --target.
@@ -188,39 +197,81 @@ fn a_second_run_waits_for_the_core_and_takes_what_the_first_made() {
     assert!(said.is_none_or(|said| said == taken(&folder.join(name))));
 }
 
+/// What the script reads, in a folder outside of the repository (`rt ci` finds every Rattle file in it), which goes when this does.
+struct Clone(PathBuf);
+
+const SCRIPT: &str = "rust/lomvigast/archives";
+
+impl Clone {
+    fn new(name: &str) -> Self {
+        let unique = format!("lomvigast-{name}-{}", std::process::id());
+        let clone = Clone(env::temp_dir().join(unique));
+        fs::create_dir_all(clone.0.join("rust/lomvigast")).expect("a folder for the test");
+        for part in ["crates", "crates.txt", SCRIPT, "rust/lomvigast/Cargo.toml"] {
+            copy(&repository().join(part), &clone.0.join(part));
+        }
+        clone
+    }
+
+    fn script(&self, target: &Path) -> Command {
+        let mut command = Command::new("sh");
+        command.arg(self.0.join(SCRIPT)).arg(target);
+        with_stand_in(command)
+    }
+}
+
+impl Drop for Clone {
+    fn drop(&mut self) {
+        let _ = fs::remove_dir_all(&self.0);
+    }
+}
+
 #[test]
 fn archives_belong_to_the_content_of_the_sources() {
-    let (target, clone) = (empty("content"), empty("clone"));
+    let (target, clone) = (empty("content"), Clone::new("content"));
     let folder = made(&target);
-    let script = "rust/lomvigast/archives";
-    fs::create_dir_all(clone.join("rust/lomvigast")).expect("a folder for the test");
-    for part in ["crates", "crates.txt", script, "rust/lomvigast/Cargo.toml"] {
-        copy(&repository().join(part), &clone.join(part));
-    }
     let path = path_without(&["rt"]);
     let run = || {
-        let mut command = Command::new(clone.join(script));
-        command.arg(&target).env_remove("LOMVIGAST_ARCHIVE");
+        let mut command = clone.script(&target);
         command.env("PATH", &path);
         command
     };
     // Other files of the same content, and changes to what no archive is made of.
-    append(clone.join("crates/delivery/src/lib.rt"), "// more\n");
-    append(clone.join("crates.txt"), "more: guest\n");
-    fs::write(clone.join("crates/guest/must-fail/more.edit"), "").expect("an edit");
+    append(clone.0.join("crates/delivery/src/lib.rt"), "// more\n");
+    append(clone.0.join("crates.txt"), "more: guest\n");
+    fs::write(clone.0.join("crates/guest/must-fail/more.edit"), "").expect("an edit");
     assert_eq!(said(&mut run()), taken(&folder));
 
-    let source = clone.join("crates/guest/src/lib.rt");
+    let source = clone.0.join("crates/guest/src/lib.rt");
     let text = fs::read(&source).expect("a source");
     append(source.clone(), "// more\n");
     stops(&mut run(), NO_RT);
     fs::write(source, text).expect("a source");
     assert_eq!(said(&mut run()), taken(&folder));
 
-    let list = clone.join("crates.txt");
+    let list = clone.0.join("crates.txt");
     let lines = fs::read_to_string(&list).expect("the list");
     fs::write(&list, lines.replace("codes:\n", "codes: bytes\n")).expect("the list");
     stops(&mut run(), NO_RT);
+}
+
+#[test]
+fn sources_that_change_meanwhile_are_not_taken_as_proved() {
+    let (target, clone) = (empty("changed"), Clone::new("changed"));
+    let source = clone.0.join("crates/codes/src/lib.rt");
+    let text = fs::read(&source).expect("a source");
+    let (status, out, fault) = said(clone.script(&target).env("CHANGES", &source));
+    assert_eq!((status, out.as_str()), (Some(1), ""));
+    let end = "lomvigast: the sources were changed while they were proved: begin again\n";
+    assert!(fault.ends_with(end), "{fault}");
+    // Neither for what they were, nor crate by crate.
+    fs::write(source, text).expect("a source");
+    let mut again = clone.script(&target);
+    let notes = target.join("notes");
+    let (status, _, fault) = said(again.env("NOTES", &notes));
+    assert_eq!((status, fault.as_str()), (Some(0), PROGRESS));
+    let notes = fs::read_to_string(notes).expect("the stand-in's notes");
+    assert!(!notes.contains("once more"), "{notes}");
 }
 
 /// What is wrong with a folder, and what is said of it.

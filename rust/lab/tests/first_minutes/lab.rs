@@ -79,7 +79,7 @@ fn a_lab_at_work_holds_up_no_other() {
     assert_eq!(line(&mut at_work.stdout), "memory: 4 bytes, all 0\n");
     let mut other = Command::new("flock");
     let lock = target().join("lomvigast/lab.lock");
-    match other.arg("--nonblock").arg(lock).arg("true").status() {
+    match other.arg("-n").arg(lock).arg("true").status() {
         Ok(status) => assert!(status.success(), "the lock is held"),
         Err(_) => println!("left out: there is no flock"),
     }

@@ -31,12 +31,6 @@ fn empty(name: &str) -> PathBuf {
     folder
 }
 
-/// Another one at each call.
-fn unused(name: &str) -> PathBuf {
-    static NEXT: AtomicUsize = AtomicUsize::new(0);
-    empty(&format!("{name}_{}", NEXT.fetch_add(1, Ordering::Relaxed)))
-}
-
 fn remove(folder: &Path) {
     if folder.exists() {
         fs::remove_dir_all(folder).expect("a folder of the test");
@@ -54,9 +48,10 @@ fn append(file: PathBuf, text: &str) {
     written.expect("a file of the test");
 }
 
-/// All commands of this machine but these.
+/// All commands of this machine but these, in a folder that no other test has.
 fn path_without(names: &[&str]) -> PathBuf {
-    let folder = unused("path");
+    static NEXT: AtomicUsize = AtomicUsize::new(0);
+    let folder = empty(&format!("path_{}", NEXT.fetch_add(1, Ordering::Relaxed)));
     let path = env::var_os("PATH").expect("PATH is set");
     let folders = env::split_paths(&path).filter_map(|folder| fs::read_dir(folder).ok());
     for command in folders.flatten().filter_map(Result::ok) {

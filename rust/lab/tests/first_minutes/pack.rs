@@ -100,5 +100,5 @@ fn a_machine_without_kit_and_cargo_has_all_it_needs() {
         built,
         (Some(0), lesson(), "lomvigast: building the lab\n".into())
     );
-    assert!(!scratch.join("target/lomvigast/core").exists());
+    assert!(!scratch.join("target/lomvigast/proved.tar").exists());
 }
