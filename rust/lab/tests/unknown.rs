@@ -112,6 +112,15 @@ fn second_pass() -> Vec<u8> {
     memory
 }
 
+/// The same with a second entry in the table, and a ring over both.
+fn two_entries(base: u8, slots: u8, driver: (u64, bool)) -> (Vec<u8>, Ring) {
+    let mut memory = second_pass();
+    (memory[0x10], memory[0x18]) = (base, slots);
+    let start = Start::Table(0, 2);
+    let ring = events(Some(driver));
+    (memory, Ring { start, ..ring })
+}
+
 #[test]
 fn an_event_ring_that_has_gone_round_shows_its_events() {
     let at = |place, cycle| {
@@ -280,19 +289,14 @@ fn history_that_was_not_come_to_is_told() {
     );
     assert_eq!(told(&capture, 1), (vec![0x50], Some(Ending::Cut)));
     // Two segments, of which the second is not in the image, or broken.
-    let mut two = second_pass();
-    (two[0x10], two[0x18]) = (0x80, 1);
-    let ring = || Ring {
-        start: Start::Table(0, 2),
-        ..events(Some((0x50, false)))
-    };
-    let held = image("first_segment", &two, 0, ring());
+    let (two, ring) = two_entries(0x80, 1, (0x50, false));
+    let held = image("first_segment", &two, 0, ring);
     assert_eq!(
         told(&held, MOST),
         (vec![0x60, 0x40, 0x50], Some(Ending::Missing(0x80)))
     );
-    two[0x10] = 0x81;
-    let broken = Capture::new(two, vec![ring()]);
+    let (two, ring) = two_entries(0x81, 1, (0x50, false));
+    let broken = Capture::new(two, vec![ring]);
     let (listed, why) = told(&broken, MOST);
     assert_eq!(
         (listed, why.map(|why| why.tone())),
@@ -303,12 +307,7 @@ fn history_that_was_not_come_to_is_told() {
 /// The fresh event in the last slot before a broken entry cannot be taken, and is told of.
 #[test]
 fn a_fresh_event_that_cannot_be_taken() {
-    let mut memory = second_pass();
-    (memory[0x10], memory[0x18]) = (0x81, 1);
-    let ring = Ring {
-        start: Start::Table(0, 2),
-        ..events(Some((0x70, true)))
-    };
+    let (memory, ring) = two_entries(0x81, 1, (0x70, true));
     let (words, json) = last_lines(&Capture::new(memory, vec![ring]));
     assert!(
         words.contains("at 0x70 stands a fresh event that cannot be taken"),
@@ -321,12 +320,7 @@ fn a_fresh_event_that_cannot_be_taken() {
 /// Two entries with the same slots: which of them the driver is in nobody knows.
 #[test]
 fn a_driver_on_a_slot_of_two_entries() {
-    let mut memory = second_pass();
-    (memory[0x10], memory[0x18]) = (0x40, 4);
-    let ring = Ring {
-        start: Start::Table(0, 2),
-        ..events(Some((0x50, false)))
-    };
+    let (memory, ring) = two_entries(0x40, 4, (0x50, false));
     let told = reading(&Capture::new(memory, vec![ring]));
     assert_eq!(told.end, Ending::NoSlot(0x50));
 }
