@@ -1,5 +1,6 @@
 pub mod Tests
 pub mod Judge
+pub mod Bytes
 pub mod Memory
 pub mod Fields
 pub mod Answers
