@@ -59,6 +59,12 @@ inside-part m a k i l h n =
     within-inside m (a + i) l
     (record { from = omega (arith, w .from); below = omega (arith, w .below); fits = omega (arith, w .from, w .fits) })
 
+-- and so are fewer bytes
+pub inside-less : (m : Memory) (a k l : ℕ) → inside m a k ≡ true → l ≤ k → inside m a l ≡ true
+inside-less m a k l h n =
+    let w = inside-within m a k h in
+    within-inside m a l (record { from = w .from; below = omega (arith, w .below); fits = omega (arith, w .fits) })
+
 -- ---- what is read of a part
 
 module _ (m : Memory) (a i : ℕ) (from : m .start ≤ a) where
