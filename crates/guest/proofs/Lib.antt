@@ -5,4 +5,4 @@ pub mod Memory
 pub mod Fields
 pub mod Answers
 pub mod FromZero
-pub mod Moved
+pub mod Further

@@ -4,4 +4,4 @@ pub mod Bytes
 pub mod Memory
 pub mod Fields
 pub mod Answers
-pub mod Moved
+pub mod Further

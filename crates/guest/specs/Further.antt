@@ -4,7 +4,7 @@ use mathlib.Core.Path.{_≡_}
 use lib.ListN.{length}
 use Rattle.guest.specs.Memory.{Memory}
 
-pub record MovedUp (d : ℕ) (m m′ : Memory) : Type 0 where
+pub record Further (d : ℕ) (m m′ : Memory) : Type 0 where
   pub start : m′ .start ≡ m .start + d
   pub long : length (m′ .bytes) ≡ length (m .bytes)
   -- it ends below 2 ^ 64, so that no place in it, and none after one, passes that

@@ -5,12 +5,12 @@ use Prim.Native.Nat.{ℕ, _+_, _≤_}
 use native.Mathlib.Omega.{arith}
 use lib.ListN.{length}
 use Rattle.guest.specs.Memory.{Memory, inside}
-use Rattle.guest.specs.Moved.{MovedUp}
+use Rattle.guest.specs.Further.{Further}
 use Rattle.guest.proofs.Memory.{Within, inside-within, within-inside, inside-no}
 
-module _ (d : ℕ) (m m′ : Memory) (M : MovedUp d m m′) where
-  pub inside-moved : (a k : ℕ) → inside m′ (a + d) k ≡ inside m a k
-  inside-moved a k = go (inside m a k) refl
+module _ (d : ℕ) (m m′ : Memory) (M : Further d m m′) where
+  pub inside-further : (a k : ℕ) → inside m′ (a + d) k ≡ inside m a k
+  inside-further a k = go (inside m a k) refl
     where
       up : Within m a k → Within m′ (a + d) k
       up w =
