@@ -1,4 +1,5 @@
--- In a window d further up, d a multiple of 64, configure, add and take answer the same, d further up. Assumes nothing.
+-- In a window d further up, d a multiple of 64, configure, add and take answer the same, d further up; add and take, which step to the next
+-- slot, where the place after the window's last is below 2 ^ 64 too. Assumes nothing.
 use Prim.{tt}
 use Prim.Native.Nat.{ℕ, _+_, _-_, _*_, _%_, _^_, _≤_, _<_}
 use mathlib.Core.Path.{_≡_, refl, sym, ap, ap₂, _∙_}
@@ -8,6 +9,7 @@ use native.Mathlib.Decide.{ℕ-discrete}
 use native.Mathlib.Omega.{arith}
 use borrow.Author.Tests.{eq-eqb, ne-eqb}
 use lib.Dec.{eqb, leb}
+use lib.ListN.{length}
 use Rattle.guest.specs.Judge.{Tests, judge}
 use Rattle.guest.specs.Memory.{Memory, inside, trbAt, write}
 use Rattle.guest.specs.Further.{Further}
@@ -78,7 +80,7 @@ module _ (d : ℕ) (m m′ : Memory) (M : Further d m m′) (lines : d % 64 ≡ 
 
   -- ---- the slot after the present one
 
-  module _ (s : EventRing) (E : EntryUp d m m′ (s .table + 16 * nextIndex s)) where
+  module _ (room : m′ .start + length (m′ .bytes) < 2 ^ 64) (s : EventRing) (E : EntryUp d m m′ (s .table + 16 * nextIndex s)) where
     next-index-up : nextIndex (ringUp d s) ≡ nextIndex s
     unfolding nextIndex
     next-index-up = refl
@@ -93,7 +95,7 @@ module _ (d : ℕ) (m m′ : Memory) (M : Further d m m′) (lines : d % 64 ≡ 
     along-up : inside m (s .place) 16 ≡ true → along (ringUp d s) ≡ ringUp d (along s)
     along-up i =
         let w = inside-within m (s .place) 16 i in
-        let e : (s .place + d + 16) % 2 ^ 64 ≡ (s .place + 16) % 2 ^ 64 + d = omega (arith, w .from, w .fits, M .start, M .long, M .below) in
+        let e : (s .place + d + 16) % 2 ^ 64 ≡ (s .place + 16) % 2 ^ 64 + d = omega (arith, w .from, w .fits, M .start, M .long, room) in
         ap (λ (p : ℕ). record { ready = s .ready; table = s .table + d; entries = s .entries; index = s .index; place = p; remaining = s .remaining - 1; cycle = s .cycle }) e
 
     entered-up : inside m (s .table + 16 * nextIndex s) 16 ≡ true
@@ -174,10 +176,10 @@ module _ (d : ℕ) (m m′ : Memory) (M : Further d m m′) (lines : d % 64 ≡ 
 
   -- ---- take
 
-  pub take-up : (r : EventReader) → EntryUp d m m′ (r .state .table + 16 * nextIndex (r .state)) → SlotUp d m m′ (r .state .place)
+  pub take-up : m′ .start + length (m′ .bytes) < 2 ^ 64 → (r : EventReader) → EntryUp d m m′ (r .state .table + 16 * nextIndex (r .state)) → SlotUp d m m′ (r .state .place)
       → take m′ (readerUp d r) ≡ takenUp d (take m r)
   unfolding take nextTests
-  take-up r E S =
+  take-up room r E S =
       judge-alike (takenUp d) (takeTests m s) (takeTests m′ (ringUp d s)) (takeRefused r) (takeRefused (readerUp d r))
       (cond (freshOf m s) (takenAt (trbAt m (s .place)) (nextState m s)) (nothingAt r))
       (cond (freshOf m′ (ringUp d s)) (takenAt (trbAt m′ (s .place + d)) (nextState m′ (ringUp d s))) (nothingAt (readerUp d r)))
@@ -195,11 +197,11 @@ module _ (d : ℕ) (m m′ : Memory) (M : Further d m m′) (lines : d % 64 ≡ 
       tests i = rw (fresh-up i) (go (freshOf m s))
         where
           go : (f : Bool) → Alike (cond f (nextTests m s) []) (cond f (nextTests m′ (ringUp d s)) [])
-          go true = rw (append-nil (nextTests m s), append-nil (nextTests m′ (ringUp d s))) at (next-alike s E [] [] (λ p. tt))
+          go true = rw (append-nil (nextTests m s), append-nil (nextTests m′ (ringUp d s))) at (next-alike room s E [] [] (λ p. tt))
           go false = tt
 
       gives : (f : Bool) → freshOf m s ≡ f → inside m (s .place) 16 ≡ true → Passes (cond (freshOf m s) (nextTests m s) [])
           → cond (freshOf m′ (ringUp d s)) (takenAt (trbAt m′ (s .place + d)) (nextState m′ (ringUp d s))) (nothingAt (readerUp d r))
           ≡ takenUp d (cond (freshOf m s) (takenAt (trbAt m (s .place)) (nextState m s)) (nothingAt r))
-      gives true h i p = rw (fresh-up i, h, S i, next-up s E (last s) refl i (rw h at p))
+      gives true h i p = rw (fresh-up i, h, S i, next-up room s E (last s) refl i (rw h at p))
       gives false h i p = rw (fresh-up i, h)

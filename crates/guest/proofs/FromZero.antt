@@ -1,6 +1,6 @@
 -- A window that begins at 0 is guest memory as document 01 has it: a list of bytes, the first of which has the address 0. Its definitions
 -- stand here by themselves, each with a 0 to its name, and the window's are equal to them for every input. Assumes nothing.
-use mathlib.Core.Path.{_≡_, refl, sym, ap, ap₂, _∙_}
+use mathlib.Core.Path.{_≡_, refl, ap, ap₂, _∙_}
 use mathlib.Core.List.{List, [], _∷_, _++_}
 use mathlib.Core.Bool.{Bool, true, false, _&&_}
 use Prim.Native.Nat.{ℕ, zero, suc, _+_, _*_, _^_}
@@ -11,7 +11,7 @@ use lib.Dec.{leb}
 use lib.ListN.{length, getD, take, drop, replicate}
 use Rattle.guest.specs.Judge.{judge}
 use Rattle.guest.specs.Bytes as bytes
-use Rattle.guest.specs.Memory.{Memory, window, inside, byte, le, part, trbAt, write}
+use Rattle.guest.specs.Memory.{Memory, window, inside, byte, le, part, write}
 use Rattle.guest.specs.Answers.{numberAt, trbRead, writeNumber, writeMemory}
 use Rattle.guest.specs.declared.Number.{Number}
 use Rattle.guest.specs.declared.Number.the-variants.{Value, Refused}
