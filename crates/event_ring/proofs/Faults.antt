@@ -1,7 +1,7 @@
 -- The refusals of configure, add and take are document 01's, said a second time as facts (specs/Faults.antt): for every input the number is that
 -- of the first fault. Assumes nothing.
 use Prim.{tt}
-use Prim.Native.Nat.{ℕ, _+_, _*_, _%_, _^_, _≤_, _<_}
+use Prim.Native.Nat.{ℕ, _+_, _-_, _*_, _%_, _^_, _≤_, _<_}
 use mathlib.Core.Path.{_≡_, refl, sym, ap, subst, _∙_}
 use mathlib.Core.Logic.{_⊎_, inl, inr}
 use mathlib.Core.Bool.{Bool, true, false, cond, not, _&&_, Bool·beq, true≢false}
@@ -14,7 +14,7 @@ use lib.ListN.{length, replicate}
 use Rattle.guest.specs.Judge.{Tests, judge, refusalOf}
 use Rattle.guest.specs.Memory.{Memory, inside, le, part, trbAt, write}
 use Rattle.guest.proofs.Judge.{judge-refusal, judge-by, judge-passes, answer-passes}
-use Rattle.guest.proofs.Memory.{inside-le, write-length, write-there, write-elsewhere}
+use Rattle.guest.proofs.Memory.{Within, inside-within, write-length, write-there, write-elsewhere}
 use Rattle.trb.specs.Trb.{cycleOf}
 use Rattle.trb.specs.Events.{valid, eventTests, eventBytes}
 use Rattle.trb.proofs.OneEncoding.{bytes-length}
@@ -77,7 +77,9 @@ asks-not {C = C} {P = P} c rest = later (λ (f : C × P). c (f .0)) rest
 says-inside : (m : Memory) (a k : ℕ) → Says (inside m a k) (Inside m a k)
 unfolding inside
 says-inside m a k =
-    says-as (says-both (says-le (a + k) (2 ^ 64)) (says-le (a + k) (length m))) (λ p. record { below = p .0; within = p .1 }) (λ i. (i .below, i .within))
+    says-as (says-both (says-both (says-le (m .start) a) (says-le (a + k) (2 ^ 64))) (says-le (a - m .start + k) (length (m .bytes))))
+    (λ p. record { from = p .0 .0; below = p .0 .1; within = omega (arith, p .0 .0, p .1) })
+    (λ i. ((i .from, i .below), omega (arith, i .from, i .within)))
 
 says-counted : (n : ℕ) → Says (countOk n) (Counted n)
 says-counted n = says-as (says-both (says-le 1 n) (says-le n 16)) (λ p. record { some = p .0; most = p .1 }) (λ c. (c .some, c .most))
@@ -151,7 +153,7 @@ module _ (m : Memory) (s : EventRing) (report : ℕ) where
   full-in-next l (inl f) = sym (f .1)
   full-in-next l (inr f) = absurd (f .0 l)
 
-  full-in-same : Not (Last s) → Full m s report → s .place + 16 ≡ report
+  full-in-same : Not (Last s) → Full m s report → (s .place + 16) % 2 ^ 64 ≡ report
   full-in-same l (inl f) = absurd (l (f .0))
   full-in-same l (inr f) = sym (f .1)
 
@@ -178,7 +180,7 @@ module _ (m : Memory) (s : EventRing) (report : ℕ) where
           let more = eqb-false (s .remaining) 1 h in
           rw h
           (asks-not more (asks-not more
-          (fills (eqb (s .place + 16) report) 7 (says-as (says-eq (s .place + 16) report) (λ q. inr (more, sym q)) (full-in-same more)))))
+          (fills (eqb ((s .place + 16) % 2 ^ 64) report) 7 (says-as (says-eq ((s .place + 16) % 2 ^ 64) report) (λ q. inr (more, sym q)) (full-in-same more)))))
 
   pub add-refused : (e : EventTrb) → FirstOf (addFaults m s e report) (added m s e report .refusal)
   unfolding added judge
@@ -267,14 +269,14 @@ add-writes m s e report h =
     let p =
     answer-passes (λ (x : Moved). x .refusal) (addTests m s e report) (add-numbered m s e report) (refusedAt s) (movedTo (nextState m s)) (λ n. refl) refl
     (added m s e report) refl h in
-    let room = inside-le m (s .place) 16 (p .1 .1 .1 .0) in
     let size = bytes-length e (s .cycle) in
-    let fits : s .place + length (eventBytes e (s .cycle)) ≤ length m = rw size room in
+    let fits : Within m (s .place) (length (eventBytes e (s .cycle))) = rw size (inside-within m (s .place) 16 (p .1 .1 .1 .0)) in
     rw (judge-passes (addTests m s e report) (λ n. m) (write m (s .place) (eventBytes e (s .cycle))) p)
     (record {
+      start = refl;
       long = write-length m (s .place) (eventBytes e (s .cycle)) fits;
       there = ap (part (write m (s .place) (eventBytes e (s .cycle))) (s .place)) (sym size) ∙ write-there m (s .place) (eventBytes e (s .cycle)) fits;
-      elsewhere = λ i o. write-elsewhere m (s .place) (eventBytes e (s .cycle)) fits i (rw size o);
+      elsewhere = λ a f o. write-elsewhere m (s .place) (eventBytes e (s .cycle)) fits a f (rw size o);
     })
 
 -- ---- no second number is that of the first fault

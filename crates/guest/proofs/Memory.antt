@@ -3,7 +3,7 @@ use mathlib.Core.Path.{_≡_, refl, sym, ap, _∙_}
 use mathlib.Core.List.{List}
 use mathlib.Core.Logic.{_⊎_, inl, inr}
 use mathlib.Core.Bool.{Bool, true, false, _&&_}
-use Prim.Native.Nat.{ℕ, _+_, _-_, _^_, _≤_, _<_}
+use Prim.Native.Nat.{ℕ, suc, _+_, _-_, _*_, _^_, _≤_, _<_}
 use native.Mathlib.Decide.{decLe}
 use native.Mathlib.Omega.{arith}
 use borrow.Author.Tests.{leb-true, le-leb, lt-leb}
@@ -59,7 +59,18 @@ inside-part m a k i l h n =
     within-inside m (a + i) l
     (record { from = omega (arith, w .from); below = omega (arith, w .below); fits = omega (arith, w .from, w .fits) })
 
+-- and so are fewer bytes
+pub inside-less : (m : Memory) (a k l : ℕ) → inside m a k ≡ true → l ≤ k → inside m a l ≡ true
+inside-less m a k l h n =
+    let w = inside-within m a k h in
+    within-inside m a l (record { from = w .from; below = omega (arith, w .below); fits = omega (arith, w .fits) })
+
 -- ---- what is read of a part
+
+-- a number's first byte, and the number of the others
+pub le-next : (m : Memory) (a k : ℕ) → m .start ≤ a → le m a (suc k) ≡ byte m a + 256 * le m (a + 1) k
+unfolding bytes.le
+le-next m a k f = ap (λ (x : ℕ). byte m a + 256 * bytes.le (m .bytes) x k) (omega arith)
 
 module _ (m : Memory) (a i : ℕ) (from : m .start ≤ a) where
   -- so far on from a

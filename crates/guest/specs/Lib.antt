@@ -4,3 +4,4 @@ pub mod Bytes
 pub mod Memory
 pub mod Fields
 pub mod Answers
+pub mod Further

@@ -4,7 +4,7 @@ use mathlib.Core.List.{List, [], _∷_}
 use mathlib.Core.Bool.{not}
 use Rattle.guest.specs.Refusals.{outside, immediate}
 use Rattle.guest.specs.Judge.{Tests, judge, refusalOf}
-use Rattle.guest.specs.Memory.{Memory, inside, part}
+use Rattle.guest.specs.Memory.{Memory, inside, offset, part}
 use Rattle.trb.specs.declared.transfer.NormalTrb.{NormalTrb}
 use Rattle.trb.specs.declared.transfer.DataStageTrb.{DataStageTrb}
 use Rattle.trb.specs.declared.data.TrbDmaInfo.{TrbDmaInfo}
@@ -24,9 +24,9 @@ dataTests m i = (immediate, not (i .«immediate_data»)) ∷ (outside, inside m 
 unfoldable pub dataRefusal : Memory → TrbDmaInfo → ℕ
 dataRefusal m i = refusalOf (dataTests m i)
 
--- the bytes, none beside a refusal, and the address of the first, 0 beside a refusal
+-- the bytes, none beside a refusal, and how far from the window's start they begin, 0 beside a refusal
 unfoldable pub dataOf : Memory → TrbDmaInfo → List ℕ
 dataOf m i = judge (dataTests m i) (λ n. []) (part m (i .«data_pointer») (i .«transfer_length»))
 
-unfoldable pub startOf : Memory → TrbDmaInfo → ℕ
-startOf m i = judge (dataTests m i) (λ n. 0) (i .«data_pointer»)
+unfoldable pub dataOffset : Memory → TrbDmaInfo → ℕ
+dataOffset m i = judge (dataTests m i) (λ n. 0) (offset m (i .«data_pointer»))

@@ -2,6 +2,7 @@
 use mathlib.Core.Path.{_≡_, refl, sym, ap, ap₂, _∙_}
 use Prim.Native.Nat.{_-_}
 use lib.Dec.{eqb}
+use Rattle.guest.specs.Memory.{window}
 use Rattle.guest.proofs.Tests.{same, differs}
 use Rattle.linked_ring.specs.Chase.{ringAt, chaseFrom}
 use Rattle.linked_ring.specs.declared.LinkedRing.{LinkedRing}
@@ -11,9 +12,9 @@ use Rattle.lomvigast_ffi.proofs.linked.go_on.Statement.{statement}
 use Rattle.lomvigast_ffi.proofs.linked.go_on.Tie as tie
 
 -- what the chase came to, in the words of the call
-came : (c : tie.After-go-on) → let x = c .before .before .before .before .before .args in c .go-on .result ≡ chaseFrom (x .mem .now) (ringOf (x .ring .now)) (256 - x .links) (ringAt (x .place) (eqb (x .cycle) 1)) (counted (x .links))
+came : (c : tie.After-go-on) → let x = c .before .before .before .before .before .args in c .go-on .result ≡ chaseFrom (window (x .start) (x .mem .now)) (ringOf (x .ring .now)) (256 - x .links) (ringAt (x .place) (eqb (x .cycle) 1)) (counted (x .links))
 came c = let x = c .before .before .before .before .before .args in
-    c .go-on .ensures ∙ ap₂ (λ (a b : LinkedRing). chaseFrom (x .mem .now) a (256 - x .links) b (counted (x .links))) (c .before .before .ring-of .ensures) (c .before .new .ensures)
+    c .go-on .ensures ∙ ap₂ (λ (a b : LinkedRing). chaseFrom (window (x .start) (x .mem .now)) a (256 - x .links) b (counted (x .links))) (c .before .before .ring-of .ensures) (c .before .new .ensures)
 
 pub go-on-spec : {M : Type 1} → statement M
 go-on-spec =
