@@ -127,14 +127,18 @@ fn event(random: &mut Random) -> String {
     }
 }
 
-/// A command in one of the known forms, on memory that begins at `start`.
-fn line(random: &mut Random, start: u64) -> String {
+/// One of the known forms, with what stands in brackets or without it.
+fn form(random: &mut Random) -> String {
     let (form, _) = random.pick(FORMS);
-    // What stands in brackets may be left out.
-    let form = match form.split_once(" [") {
+    match form.split_once(" [") {
         Some((form, _)) if random.one_in(4) => form.to_owned(),
         _ => form.replace(['[', ']'], ""),
-    };
+    }
+}
+
+/// A command on memory that begins at `start`.
+fn line(random: &mut Random, start: u64) -> String {
+    let form = form(random);
     let mut words = Vec::new();
     for word in form.split(' ') {
         let number = number(random, start);
@@ -299,45 +303,45 @@ fn hold_to_its_beginning(shown: &str) {
     }
 }
 
+/// Random TRBs as memory, with rings in it and outside. Memory that begins above 0 is an image.
+fn capture(random: &mut Random) -> Capture {
+    let base = random.pick(STARTS);
+    let mut memory = Vec::new();
+    for _ in 0..random.below(64) {
+        memory.extend(trb(random, base));
+    }
+    memory.truncate(memory.len() - memory.len().min(random.below(20) as usize));
+    let at = |from_base| base.wrapping_add(from_base);
+    let starts = [
+        Start::Linked(at(random.below(1 << 11)), Some(random.one_in(2))),
+        Start::Linked(random.next(), None),
+        Start::Table(at(64 * random.below(16)), random.below(4) as u16),
+        Start::Table(random.next(), random.next() as u16),
+    ];
+    let kinds = [Kind::Command, Kind::Transfer, Kind::Event, Kind::Any];
+    let places = [0x40, 0x13, u64::MAX - 15].map(|place| Some(at(place)));
+    let ring = |start| Ring {
+        kind: random.pick(&kinds),
+        name: "\"\n".to_owned(),
+        start,
+        driver: random.one_in(2).then(|| Driver {
+            dequeue: at(random.pick(&[0, 0x10, 0x40, 0x100, u64::MAX])),
+            enqueue: random.pick(&[None, places[0], places[1], places[2]]),
+            cycle: random.one_in(2),
+        }),
+    };
+    let rings = starts.map(ring).into();
+    match base {
+        0 => Capture::new(memory, rings),
+        _ => Capture::of_bytes(memory, base, rings).expect("it ends at 2^64 at most"),
+    }
+}
+
 #[test]
 fn random_memory_as_captures() {
     let mut random = Random(5);
     for _ in 0..2000 {
-        let mut memory = Vec::new();
-        let base = random.pick(STARTS);
-        for _ in 0..random.below(64) {
-            memory.extend(trb(&mut random, base));
-        }
-        memory.truncate(memory.len() - memory.len().min(random.below(20) as usize));
-        let at = |from_base| base.wrapping_add(from_base);
-        let starts = [
-            Start::Linked(at(random.below(1 << 11)), Some(random.one_in(2))),
-            Start::Linked(random.next(), None),
-            Start::Table(at(64 * random.below(16)), random.below(4) as u16),
-            Start::Table(random.next(), random.next() as u16),
-        ];
-        let kinds = [Kind::Command, Kind::Transfer, Kind::Event, Kind::Any];
-        let mut ring = |start| Ring {
-            kind: random.pick(&kinds),
-            name: "\"\n".to_owned(),
-            start,
-            driver: random.one_in(2).then(|| Driver {
-                dequeue: at(random.pick(&[0, 0x10, 0x40, 0x100, u64::MAX])),
-                enqueue: random.pick(&[
-                    None,
-                    Some(at(0x40)),
-                    Some(at(0x13)),
-                    Some(at(u64::MAX - 15)),
-                ]),
-                cycle: random.one_in(2),
-            }),
-        };
-        let rings = starts.map(&mut ring).into();
-        // Memory that begins above 0 is an image.
-        let capture = match base {
-            0 => Capture::new(memory, rings),
-            _ => Capture::of_bytes(memory, base, rings).expect("it ends at 2^64 at most"),
-        };
+        let capture = capture(&mut random);
         let mut out = Vec::new();
         for (json, most) in [(false, 1000), (true, 1000), (true, 3), (false, 0)] {
             fine(show(&capture, json, most, &mut Output::plain(&mut out)));

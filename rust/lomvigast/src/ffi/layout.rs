@@ -5,6 +5,7 @@ use super::*;
 use crate::types::*;
 use crate::Refusal;
 use std::mem::{align_of, offset_of, size_of};
+use std::vec::Vec;
 
 /// Holds a record's fields to their places, and its size.
 macro_rules! places {
@@ -179,12 +180,18 @@ fn a_refusal_leaves_a_state_as_it_was() {
     }
 }
 
-#[test]
-fn a_state_is_read_and_written_by_its_words() {
+/// A table at 0x40 from the start on, whose entry 1 is a segment of two slots, and a TRB.
+fn segments() -> Vec<u8> {
     let mut mem = vec![0; 0x100];
     mem[0x50..0x58].copy_from_slice(&(START + 0x80).to_le_bytes());
     mem[0x58] = 2;
     mem[0xc0..0xd0].copy_from_slice(&TRB);
+    mem
+}
+
+#[test]
+fn a_state_is_read_and_written_by_its_words() {
+    let mut mem = segments();
     let table = START + 0x40;
     let last = State {
         table,
