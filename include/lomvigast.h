@@ -8,10 +8,10 @@
  * read by all of them.
  *
  * Guest memory is lent for one call as a window, `start`, `mem` and `len`: `len` bytes, of which the first has guest address
- * `start`. Of addresses, k bytes from a on are inside if a is at least start, a + k is at most 2^64, and a - start + k is at
- * most len. A window may end at 2^64; bytes that would stand beyond have no address. Nobody may write to it during the call (the
- * proofs are about memory that stands still), and where a call is given `uint8_t *mem` nobody may read it either. With len 0
- * `mem` is not read, but must not be NULL.
+ * `start`. k bytes from address a on are inside if a is at least start, a + k is at most 2^64, and a - start + k is at most len.
+ * A window may end at 2^64; bytes that would stand beyond have no address. Nobody may write to it during the call (the proofs are
+ * about memory that stands still), and where a call is given `uint8_t *mem` nobody may read it either. With len 0 `mem` is not
+ * read, but must not be NULL.
  *
  * Every pointer must be valid for the call, aligned as its type is, and point at nothing that another pointer of the same call
  * points at, guest memory among it. Two `const` pointers may meet.
