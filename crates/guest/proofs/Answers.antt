@@ -7,10 +7,10 @@ use native.Mathlib.Omega.{arith}
 use lib.ListN.{replicate}
 use Rattle.guest.specs.Judge.{judge}
 use Rattle.guest.specs.Memory.{Memory, inside, trbAt}
-use Rattle.guest.specs.Answers.{touches, trbRead, halvesRead}
-use Rattle.guest.specs.Fields.{lowOf, highOf}
+use Rattle.guest.specs.Answers.{touches, trbRead, noSlot, slotOf, slotRead}
+use Rattle.guest.specs.Fields.{dword, lowOf, highOf}
 use Rattle.guest.specs.declared.TrbAnswer.{TrbAnswer}
-use Rattle.guest.specs.declared.HalvesAnswer.{HalvesAnswer}
+use Rattle.guest.specs.declared.SlotAnswer.{SlotAnswer}
 
 -- sixteen bytes that were read
 pub record Read (m : Memory) (a : ℕ) (r : TrbAnswer) : Type 0 where
@@ -41,20 +41,23 @@ pub read-inside : (m : Memory) (a : ℕ) (r : TrbAnswer) → r ≡ trbRead m a �
 unfolding judge
 read-inside m a r e i = ap (λ (x : TrbAnswer). x .trb) (rw i at e)
 
--- their two halves
-pub record ReadHalves (m : Memory) (a : ℕ) (r : HalvesAnswer) : Type 0 where
+-- the same as numbers
+pub record ReadSlot (m : Memory) (a : ℕ) (r : SlotAnswer) : Type 0 where
   pub within : inside m a 16 ≡ true
+  pub d3 : r .d3 ≡ dword (trbAt m a) 3
   pub low : r .low ≡ lowOf (trbAt m a)
   pub high : r .high ≡ highOf (trbAt m a)
 
-abbrev pickedHalves : Memory → ℕ → Bool → HalvesAnswer
-pickedHalves m a b =
-    judge ((1, b) ∷ []) (λ n. record { refusal = n; low = 0; high = 0 }) (record { refusal = 0; low = lowOf (trbAt m a); high = highOf (trbAt m a) })
-
-pub halves-yes : (m : Memory) (a : ℕ) (r : HalvesAnswer) → r ≡ halvesRead m a → r .refusal ≡ 0 → ReadHalves m a r
+pub slot-yes : (m : Memory) (a : ℕ) (r : SlotAnswer) → r ≡ slotRead m a → r .refusal ≡ 0 → ReadSlot m a r
 unfolding judge
-halves-yes m a r e h = go (inside m a 16) refl e
+slot-yes m a r e h = go (inside m a 16) refl e
   where
-    go : (b : Bool) → inside m a 16 ≡ b → r ≡ pickedHalves m a b → ReadHalves m a r
-    go true i p = record { within = i; low = ap (λ (x : HalvesAnswer). x .low) p; high = ap (λ (x : HalvesAnswer). x .high) p }
-    go false i p = absurd (omega (arith, ap (λ (x : HalvesAnswer). x .refusal) p))
+    go : (b : Bool) → inside m a 16 ≡ b → r ≡ judge ((1, b) ∷ []) noSlot (slotOf (trbAt m a)) → ReadSlot m a r
+    go true i p =
+        record {
+          within = i;
+          d3 = ap (λ (x : SlotAnswer). x .d3) p;
+          low = ap (λ (x : SlotAnswer). x .low) p;
+          high = ap (λ (x : SlotAnswer). x .high) p;
+        }
+    go false i p = absurd (omega (arith, ap (λ (x : SlotAnswer). x .refusal) p))

@@ -4,10 +4,9 @@ use mathlib.Core.List.{List}
 use mathlib.Core.Logic.{_⊎_, inl, inr}
 use mathlib.Core.Bool.{Bool, true, false, _&&_}
 use Prim.Native.Nat.{ℕ, suc, _+_, _-_, _*_, _^_, _≤_, _<_}
-use native.Mathlib.Decide.{decLe}
 use native.Mathlib.Omega.{arith}
-use borrow.Author.Tests.{leb-true, le-leb, lt-leb}
-use lib.Dec.{leb}
+use borrow.Author.Tests.{leb-true, leb-false, ltb-true, ltb-false, le-leb}
+use lib.Dec.{leb, ltb}
 use lib.ListN.{length, getD}
 use Rattle.guest.specs.Bytes as bytes
 use Rattle.guest.specs.Memory.{Memory, offset, byte, inside, le, part, write}
@@ -44,13 +43,22 @@ module _ (m : Memory) (a k : ℕ) where
       go true e = absurd (n (inside-within e))
       go false e = e
 
-  -- of bytes that start and length allow, the sum with 2 ^ 64 by what is left above the address
-  pub inside-left : a < 2 ^ 64 → m .start ≤ a → offset m a + k ≤ length (m .bytes) → 1 ≤ k → leb (k - 1) (2 ^ 64 - 1 - a) ≡ inside m a k
-  inside-left z f l o = go (decLe (k - 1) (2 ^ 64 - 1 - a))
-    where
-      go : Dec (k - 1 ≤ 2 ^ 64 - 1 - a) → leb (k - 1) (2 ^ 64 - 1 - a) ≡ inside m a k
-      go (yes p) = le-leb _ _ p ∙ sym (within-inside (record { from = f; below = omega (arith, z, o); fits = l }))
-      go (no n) = lt-leb (k - 1) (2 ^ 64 - 1 - a) (omega (arith, n)) ∙ sym (inside-no (λ w. n (omega (arith, w .below, o))))
+  -- a test that decides it; none of no bytes, and the last of some, where start and 2 ^ 64 allow them
+  inside-by : (b : Bool) → (b ≡ true → Within) → (b ≡ false → Within → ⊥) → b ≡ inside m a k
+  inside-by true f g = sym (within-inside (f refl))
+  inside-by false f g = sym (inside-no (g refl))
+
+  pub inside-none : k ≡ 0 → m .start ≤ a → a < 2 ^ 64 → leb (offset m a) (length (m .bytes)) ≡ inside m a k
+  inside-none z f u =
+      inside-by (leb (offset m a) (length (m .bytes)))
+      (λ t. record { from = f; below = omega (arith, z, u); fits = omega (arith, z, leb-true (offset m a) (length (m .bytes)) t) })
+      (λ t w. omega (arith, leb-false (offset m a) (length (m .bytes)) t, w .fits))
+
+  pub inside-last : 1 ≤ k → m .start ≤ a → a + k ≤ 2 ^ 64 → ltb (offset m a + (k - 1)) (length (m .bytes)) ≡ inside m a k
+  inside-last o f u =
+      inside-by (ltb (offset m a + (k - 1)) (length (m .bytes)))
+      (λ t. record { from = f; below = u; fits = omega (arith, o, ltb-true (offset m a + (k - 1)) (length (m .bytes)) t) })
+      (λ t w. omega (arith, o, ltb-false (offset m a + (k - 1)) (length (m .bytes)) t, w .fits))
 
 -- a part of what is inside
 pub inside-part : (m : Memory) (a k i l : ℕ) → inside m a k ≡ true → i + l ≤ k → inside m (a + i) l ≡ true

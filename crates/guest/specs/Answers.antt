@@ -5,11 +5,11 @@ use lib.ListN.{replicate}
 use Rattle.guest.specs.Refusals.{outside}
 use Rattle.guest.specs.Judge.{Tests, judge, refusalOf}
 use Rattle.guest.specs.Memory.{Memory, inside, offset, le, part, trbAt, write}
-use Rattle.guest.specs.Fields.{lowOf, highOf}
+use Rattle.guest.specs.Fields.{dword, lowOf, highOf}
 use Rattle.guest.specs.declared.Number.{Number}
 use Rattle.guest.specs.declared.Number.the-variants.{Value, Refused}
 use Rattle.guest.specs.declared.TrbAnswer.{TrbAnswer}
-use Rattle.guest.specs.declared.HalvesAnswer.{HalvesAnswer}
+use Rattle.guest.specs.declared.SlotAnswer.{SlotAnswer}
 
 abbrev pub touches : Memory → ℕ → ℕ → Tests
 touches m a k = (outside, inside m a k) ∷ []
@@ -24,12 +24,15 @@ trbRead m a =
     (λ n. record { refusal = n; trb = replicate 16 0 })
     (record { refusal = 0; trb = trbAt m a })
 
--- the same sixteen bytes as two numbers of eight bytes
-abbrev pub halvesRead : Memory → ℕ → HalvesAnswer
-halvesRead m a =
-    judge (touches m a 16)
-    (λ n. record { refusal = n; low = 0; high = 0 })
-    (record { refusal = 0; low = lowOf (trbAt m a); high = highOf (trbAt m a) })
+-- the same sixteen bytes as numbers: dword 3, and both halves
+abbrev pub slotOf : List ℕ → SlotAnswer
+slotOf trb = record { refusal = 0; d3 = dword trb 3; low = lowOf trb; high = highOf trb }
+
+abbrev pub noSlot : ℕ → SlotAnswer
+noSlot n = record { refusal = n; d3 = 0; low = 0; high = 0 }
+
+abbrev pub slotRead : Memory → ℕ → SlotAnswer
+slotRead m a = judge (touches m a 16) noSlot (slotOf (trbAt m a))
 
 -- sixteen bytes written at a: the number answered, and the memory afterwards
 abbrev pub writeNumber : Memory → ℕ → ℕ

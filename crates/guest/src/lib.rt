@@ -3,12 +3,12 @@
 pub mod refusal;
 
 ghost use mathlib.Core.Path.{_≡_};
-ghost use Prim.Native.Nat.{_+_, _≤_, _<_};
+ghost use Prim.Native.Nat.{_+_, _-_, _^_, _≤_, _<_, min};
 ghost use lib.ListN.{length};
 ghost use Rattle.guest.specs.Bytes.{le, part, write};
 ghost use Rattle.guest.specs.Memory.{window, inside};
 ghost use Rattle.guest.specs.Fields.{dwordsOf, bytesOfDwords, lowOf, highOf, wholeOf};
-ghost use Rattle.guest.specs.Answers.{numberAt, trbRead, halvesRead, writeNumber, writeMemory, offsetOf, partOf};
+ghost use Rattle.guest.specs.Answers.{numberAt, trbRead, noSlot, slotOf, slotRead, writeNumber, writeMemory, offsetOf, partOf};
 
 // The last address.
 const LAST: u64 = 0xffff_ffff_ffff_ffff;
@@ -25,9 +25,10 @@ pub struct TrbAnswer {
     pub trb: [u8; 16],
 }
 
-// The same sixteen bytes as two numbers of eight bytes, with refusal 0; or a refusal, with 0s.
-pub struct HalvesAnswer {
+// The same sixteen bytes as numbers, dword 3 and both halves, with refusal 0; or a refusal, with 0s.
+pub struct SlotAnswer {
     pub refusal: u8,
+    pub d3: u64,
     pub low: u64,
     pub high: u64,
 }
@@ -40,24 +41,23 @@ pub struct Dwords {
     pub d3: u32,
 }
 
-// Whether all `length` bytes from `address` on are in the window. No sum is made, so that none passes 2^64.
+// Whether all `length` bytes from `address` on are in the window. Of an address that is known to be a multiple of 16 the compiler sees
+// that the third test passes.
 pub fn inside(start: u64, mem: &[u8], address: u64, length: u64) -> bool
     ensures { λ r. ⌜ r ≡ inside (window start (now (mem .entry))) address length ⌝ }
 {
-    let n = mem.len() as u64;
-    if n < length {
-        return false;
-    }
     if address < start {
         return false;
     }
-    if n - length < address - start {
+    let offset = address - start;
+    let n = mem.len() as u64;
+    if length == 0 {
+        return offset <= n;
+    }
+    if LAST - address < length - 1 {
         return false;
     }
-    if length == 0 {
-        return true;
-    }
-    length - 1 <= LAST - address
+    offset + (length - 1) < n
 }
 
 fn wide(b: u8) -> u16
@@ -148,22 +148,64 @@ pub fn read_trb(start: u64, mem: &[u8], address: u64) -> TrbAnswer
     }
 }
 
-pub fn read_halves(start: u64, mem: &[u8], address: u64) -> HalvesAnswer
-    ensures { λ r. ⌜ r ≡ halvesRead (window start (now (mem .entry))) address ⌝ }
+fn no_slot() -> SlotAnswer
+    ensures { λ r. ⌜ r ≡ noSlot 1 ⌝ }
 {
-    if !inside(start, mem, address, 16) {
-        return HalvesAnswer {
-            refusal: refusal::OUTSIDE,
-            low: 0,
-            high: 0,
-        };
+    SlotAnswer {
+        refusal: refusal::OUTSIDE,
+        d3: 0,
+        low: 0,
+        high: 0,
     }
-    let at = (address - start) as usize;
-    HalvesAnswer {
+}
+
+fn slot(mem: &[u8], at: usize) -> SlotAnswer
+    requires { ⌜ at + 16 ≤ length (now mem) ⌝ }
+    ensures { λ r. ⌜ r ≡ slotOf (part (now (mem .entry)) at 16) ⌝ }
+{
+    SlotAnswer {
         refusal: 0,
+        d3: four(mem, at + 12) as u64,
         low: eight(mem, at),
         high: eight(mem, at + 8),
     }
+}
+
+pub fn read_slot(start: u64, mem: &[u8], address: u64) -> SlotAnswer
+    ensures { λ r. ⌜ r ≡ slotRead (window start (now (mem .entry))) address ⌝ }
+{
+    if !inside(start, mem, address, 16) {
+        return no_slot();
+    }
+    slot(mem, (address - start) as usize)
+}
+
+// How many of the window's bytes have an address.
+fn addressed(start: u64, mem: &[u8]) -> u64
+    ensures { λ r. ⌜ r ≡ min (length (now (mem .entry))) (2 ^ 64 - start) ⌝ }
+{
+    let n = mem.len() as u64;
+    let left = LAST - start;
+    if left < n {
+        return left + 1;
+    }
+    n
+}
+
+// The same for one of many slots: what does not hang on the address comes first, so that a loop does it once, and then one comparison
+// tells an address below the start, where the difference wraps, and one past the end alike.
+pub fn read_next_slot(start: u64, mem: &[u8], address: u64) -> SlotAnswer
+    ensures { λ r. ⌜ r ≡ slotRead (window start (now (mem .entry))) address ⌝ }
+{
+    let n = addressed(start, mem);
+    if n < 16 {
+        return no_slot();
+    }
+    let offset = std::num::wrapping_sub_u64(address, start);
+    if n - 16 < offset {
+        return no_slot();
+    }
+    slot(mem, offset as usize)
 }
 
 fn store(mem: &mut [u8], at: usize, trb: [u8; 16])

@@ -1,4 +1,4 @@
--- Sixteen bytes of memory read as two numbers: their dword 3, and whether they are fresh. Assumes nothing.
+-- Sixteen bytes of memory read as numbers: how large they are, and whether the bytes are fresh. Assumes nothing.
 use mathlib.Core.Path.{_≡_, refl}
 use mathlib.Core.List.{List}
 use mathlib.Core.Bool.{Bool, true, false, Bool·beq}
@@ -8,17 +8,13 @@ use native.Mathlib.Omega.{arith}
 use lib.Dec.{eqb}
 use Rattle.guest.specs.Bytes.{le}
 use Rattle.guest.specs.Memory.{Memory, offset, trbAt}
-use Rattle.guest.specs.Fields.{dword, highOf}
+use Rattle.guest.specs.Fields.{dword}
 use Rattle.guest.proofs.Bytes.{Bytes, le-part, le-lt}
-use Rattle.guest.proofs.Fields.{halves}
 use Rattle.trb.specs.Trb.{cycleOf}
 
 module _ (m : Memory) (a : ℕ) (b : Bytes (m .bytes)) where
   pub four-below : (j : ℕ) → j + 4 ≤ 16 → le (trbAt m a) j 4 < 2 ^ 32
   four-below j h = rw (le-part 4 (m .bytes) (offset m a) 16 j h) (le-lt 4 (m .bytes) (offset m a + j) b)
-
-  pub d3-at : highOf (trbAt m a) / 2 ^ 32 ≡ dword (trbAt m a) 3
-  d3-at = omega (arith, halves (trbAt m a) .1, four-below 8 (omega arith))
 
 -- a cycle bit beside a cycle, both as numbers
 module _ (trb : List ℕ) where

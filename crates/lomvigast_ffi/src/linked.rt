@@ -148,22 +148,21 @@ pub extern "C" fn lomvigast_next_trb(start: u64, mem: &[u8], ring: &mut CLinkedR
     let mut cycle = ring[1] % 2;
     let mut links = 0u16;
     while links < LinkedRing::MOST_LINKS {
-        let slot = guest::read_halves(start, mem, place);
+        let slot = guest::read_next_slot(start, mem, place);
         if slot.refusal != 0 {
-            return go_on(start, mem, ring, place, cycle, links);
+            break;
         }
-        let d3 = slot.high / 0x1_0000_0000;
-        if d3 % 2 != cycle {
+        if slot.d3 % 2 != cycle {
             return nothing_new(ring, place, cycle, links);
         }
-        if d3 / 0x400 % 0x40 != (trb_types::LINK as u64) {
+        if slot.d3 / 0x400 % 0x40 != (trb_types::LINK as u64) {
             return found(ring, place, cycle, links, slot.low, slot.high);
         }
-        if !((d3 / 0x20 % 2 == 0) & (slot.low % 16 == 0)) {
-            return go_on(start, mem, ring, place, cycle, links);
+        if !((slot.d3 / 0x20 % 2 == 0) & (slot.low % 16 == 0)) {
+            break;
         }
         place = slot.low;
-        cycle = (cycle + d3 / 2 % 2) % 2;
+        cycle = (cycle + slot.d3 / 2 % 2) % 2;
         links = links + 1;
     }
     go_on(start, mem, ring, place, cycle, links)

@@ -4,6 +4,7 @@ use event_ring::EventRing;
 use event_ring::Take;
 use trb::event::EventVariant;
 ghost use mathlib.Core.Path.{_≡_};
+ghost use Prim.Native.Nat.{_*_, _/_};
 ghost use Rattle.guest.specs.Memory.{window};
 ghost use Rattle.event_ring.specs.Ring.{empty, configured, readerAt, readerConfigured, take};
 ghost use Rattle.words.specs.Events.{eventIn};
@@ -82,6 +83,13 @@ fn plain(ring: &CEventRing) -> bool
         & (ring[ENTRIES] <= 16)
         & (ring[READY] == 1)
         & (ring[CYCLE] < 2)
+}
+
+// A plain ring's place as it is, since it is a multiple of 16; of this one the compiler sees it, and asks less of it.
+fn rounded(place: u64) -> u64
+    ensures { λ r. ⌜ r ≡ place / 16 * 16 ⌝ }
+{
+    place / EventRing::SLOT_SIZE * EventRing::SLOT_SIZE
 }
 
 // Another place in the same segment.
@@ -174,11 +182,11 @@ pub extern "C" fn lomvigast_add(
 ) -> u8
     ensures { λ r. ⌜ (r ≡ addedFrom (window start (now (mem .entry))) (stateOf (now (ring .entry))) (eventIn (now (event .entry))) report .refusal) × (now (mem .exit) ≡ memoryFrom (window start (now (mem .entry))) (stateOf (now (ring .entry))) (eventIn (now (event .entry))) report .bytes) × (now (ring .exit) ≡ ringFrom (window start (now (mem .entry))) (now (ring .entry)) (eventIn (now (event .entry))) report) ⌝ }
 {
-    let place = ring[PLACE];
-    if !(plain(ring) & (report % EventRing::SLOT_SIZE == 0)) {
+    let place = rounded(ring[PLACE]);
+    if !guest::inside(start, mem, place, 16) {
         return add(start, mem, ring, event, report);
     }
-    if !guest::inside(start, mem, place, 16) {
+    if !(plain(ring) & (report % EventRing::SLOT_SIZE == 0)) {
         return add(start, mem, ring, event, report);
     }
     let next = std::num::wrapping_add_u64(place, EventRing::SLOT_SIZE);
@@ -226,15 +234,15 @@ pub extern "C" fn lomvigast_take(
 ) -> u8
     ensures { λ r. ⌜ (r ≡ takeNumber (take (window start (now (mem .entry))) (readerAt (stateOf (now (reader .entry)))) .answer)) × (now (reader .exit) ≡ takenFrom (take (window start (now (mem .entry))) (readerAt (stateOf (now (reader .entry))))) (now (reader .entry))) × (now (out .exit) ≡ putTaken (take (window start (now (mem .entry))) (readerAt (stateOf (now (reader .entry))))) (now (out .entry))) ⌝ }
 {
-    let place = reader[PLACE];
-    if !plain(reader) {
-        return take(start, mem, reader, out);
-    }
-    let slot = guest::read_halves(start, mem, place);
+    let place = rounded(reader[PLACE]);
+    let slot = guest::read_slot(start, mem, place);
     if slot.refusal != 0 {
         return take(start, mem, reader, out);
     }
-    if slot.high / 0x1_0000_0000 % 2 != reader[CYCLE] {
+    if !plain(reader) {
+        return take(start, mem, reader, out);
+    }
+    if slot.d3 % 2 != reader[CYCLE] {
         return NOTHING;
     }
     let remaining = reader[REMAINING] - 1;

@@ -8,12 +8,11 @@ use borrow.Author.Tests.{eqb-true}
 use Rattle.guest.specs.Memory.{Memory, window, trbAt}
 use Rattle.guest.specs.Fields.{dword}
 use Rattle.guest.proofs.Bytes.{Bytes}
-use Rattle.guest.proofs.Answers.{ReadHalves, halves-yes}
+use Rattle.guest.proofs.Answers.{ReadSlot, slot-yes}
 use Rattle.guest.proofs.Tests.{yes, both}
 use Rattle.linked_ring.specs.Chase.{chase}
 use Rattle.lomvigast_ffi.specs.Linked.{ringOf}
 use Rattle.lomvigast_ffi.specs.declared.linked.CChase.{CChase}
-use Rattle.lomvigast_ffi.proofs.Slots.{d3-at}
 use Rattle.lomvigast_ffi.proofs.Links.{from, stale, other, follow}
 use Rattle.lomvigast_ffi.proofs.linked.lomvigast_next_trb.Statement.{statement}
 use Rattle.lomvigast_ffi.proofs.linked.lomvigast_next_trb.Tie as tie
@@ -38,46 +37,42 @@ bytes a j = a .before .before .before .shared-slice-known .given j .fits
 
 -- the sixteen bytes are inside and were read
 read : (c : tie.Else1 Inv-loop μ-loop) → let h = c .before .before in
-    ReadHalves (mem (h .before .before)) (h .before .before .loop .place) (h .read-halves .result)
-read c = let h = c .before .before in halves-yes _ _ (h .read-halves .result) (h .read-halves .ensures) (c .if1 .left)
+    ReadSlot (mem (h .before .before)) (h .before .before .loop .place) (h .read-next-slot .result)
+read c = let h = c .before .before in slot-yes _ _ (h .read-next-slot .result) (h .read-next-slot .ensures) (c .if1 .left)
 
-d3-is : (c : tie.Else1 Inv-loop μ-loop) → let h = c .before .before in let a = h .before .before in
-    h .read-halves .result .high / 2 ^ 32 ≡ dword (trbAt (mem a) (a .loop .place)) 3
-d3-is c = let a = c .before .before .before .before in
-    ap (λ (n : ℕ). n / 2 ^ 32) (read c .high) ∙ d3-at (mem a) (a .loop .place) (bytes a)
-
-stale-here : tie.Need-returns-2 Inv-loop μ-loop
+stale-here : tie.Need-returns Inv-loop μ-loop
 stale-here c =
     let e = c .before .before .before .before in
     let a = e .before .before .before .before in
     let v = a .loop .inv in
     let s = stale (mem a) (ringOf (words a)) (a .loop .place) (a .loop .cycle) (a .loop .links) (read e .within) (v .0)
-    (λ q. c .before .before .if2 .taken (ap (λ (n : ℕ). n % 2) (d3-is e) ∙ q)) (words a) in
+    (λ q. c .before .before .if2 .taken (ap (λ (n : ℕ). n % 2) (read e .d3) ∙ q)) (words a) in
     rw (← v .3) (c .nothing-new .ensures .0 ∙ s .0, c .nothing-new .ensures .1 ∙ s .1)
 
-other-here : tie.Need-returns-3 Inv-loop μ-loop
+other-here : tie.Need-returns-2 Inv-loop μ-loop
 other-here c =
     let t = c .before .before in
-    let y = t .before in
+    let y = t .before .before in
     let e = y .before .before in
     let a = e .before .before .before .before in
     let v = a .loop .inv in
     let s = other (mem a) (ringOf (words a)) (a .loop .place) (a .loop .cycle) (a .loop .links) (read e .within) (v .0)
-    (ap (λ (n : ℕ). n % 2) (sym (d3-is e)) ∙ y .if2 .left)
-    (λ q. t .if3 .taken (ap (λ (n : ℕ). n / 0x400 % 0x40) (d3-is e) ∙ q)) (words a) in
+    (ap (λ (n : ℕ). n % 2) (sym (read e .d3)) ∙ y .if2 .left)
+    (λ q. t .if3 .taken (ap (λ (n : ℕ). n / 0x400 % 0x40) (read e .d3) ∙ q)) (words a) in
     let halves = ap₂ {C = CChase} (λ (x y : ℕ). record { kind = 1; address = a .loop .place; low = x; high = y; notes = a .loop .links }) (read e .low) (read e .high) in
     rw (← v .3) (c .found .ensures .0 ∙ halves ∙ s .0, c .found .ensures .1 ∙ s .1)
 
 follows : tie.Need-loop-again Inv-loop μ-loop
 follows c =
-    let t = c .before .before in
-    let y = t .before in
+    let g = c .before in
+    let t = g .before .before .before in
+    let y = t .before .before in
     let e = y .before .before in
     let a = e .before .before .before .before in
     let v = a .loop .inv in
     let low = read e .low in
-    let plain = both _ _ (yes refl (c .if4 .left)) in
-    let d = d3-is e in
+    let plain = both _ _ (yes refl (g .if4 .left)) in
+    let d = read e .d3 in
     let on = follow (mem a) (ringOf (words a)) (a .loop .place) (a .loop .cycle) (a .loop .links) (read e .within) (v .0) (bytes a)
     (ap (λ (n : ℕ). n % 16) (sym low) ∙ eqb-true _ _ (plain .1))
     (omega arith)
@@ -98,17 +93,13 @@ lomvigast-next-trb-spec =
     (λ c. (omega arith, omega arith, refl, refl))
     (λ c κs. search needs)
     (λ c κs. search needs)
-    (λ c. let v = c .before .before .before .before .before .before .loop .inv in rw (v .2, v .3) at (c .go-on .ensures))
-    (λ c κs. search needs)
     stale-here
     (λ c. search needs)
     (λ c κs. search needs)
     other-here
-    (λ c κs. search needs)
-    (λ c. let v = c .before .before .before .before .before .before .before .before .before .before .before .loop .inv in rw (v .2, v .3) at (c .go-on2 .ensures))
     (λ c. search needs)
     (λ c. search needs)
     (λ c. omega arith)
     follows
     (λ c κs. search needs)
-    (λ c. let v = c .before .before .before .loop .inv in rw (v .2, v .3) at (c .go-on3 .ensures)))
+    (λ c. let v = c .before .before .before .loop .inv in rw (v .2, v .3) at (c .go-on .ensures)))
