@@ -22,9 +22,13 @@ use Rattle.linked_ring.specs.declared.LinkedRing.{LinkedRing}
 use Rattle.linked_ring.specs.declared.Notes.{Notes}
 use Rattle.linked_ring.specs.declared.Answer.{Answer}
 use Rattle.linked_ring.specs.declared.Chase.{Chase}
-use Rattle.lomvigast_ffi.specs.Linked.{ringWords, ringAfter, counted, flatChase}
+use Rattle.lomvigast_ffi.specs.Linked.{ringWords, ringAfter, flatChase}
 use Rattle.lomvigast_ffi.specs.declared.linked.CChase.{CChase}
 use Rattle.lomvigast_ffi.proofs.Slots.{four-below, fresh-yes, fresh-no}
+
+-- so many links, and nothing else to note
+abbrev counted : ℕ → Notes
+counted n = record { links = n; cleared = false; completion = false }
 
 -- the chase at a place with a cycle as a number, k links on
 abbrev pub from : Memory → LinkedRing → ℕ → ℕ → ℕ → Chase

@@ -91,6 +91,7 @@ lomvigast-next-trb-spec =
     (λ c. search needs)
     (λ c. search needs)
     (λ c. (omega arith, omega arith, refl, refl))
+    (λ c. search needs)
     (λ c κs. search needs)
     (λ c κs. search needs)
     stale-here
@@ -102,4 +103,4 @@ lomvigast-next-trb-spec =
     (λ c. omega arith)
     follows
     (λ c κs. search needs)
-    (λ c. let v = c .before .before .before .loop .inv in rw (v .2, v .3) at (c .go-on .ensures)))
+    (λ c. let v = c .before .before .before .loop .inv in rw (v .2) at (c .chase .ensures)))
