@@ -57,7 +57,7 @@ pub record Earlier (s : Setup) (m : Memory) : Type 0 where
   pub long : length (m .bytes) ≡ length (s .mem .bytes)
   pub table : (i : ℕ) → i < 16 * s .entries → byte m (s .table + i) ≡ byte (s .mem) (s .table + i)
 
--- said in numbers and not by the ring's own tests, so that a slip in those is a slip on one side only
+-- said in numbers, and of memory by `inside` alone, and not by the ring's own tests, so that a slip in those is a slip on one side only
 pub record Premises (s : Setup) : Type 0 where
   -- the table is as refusals 2, 3 and 1 allow
   pub aligned : s .table % 64 ≡ 0
@@ -74,7 +74,7 @@ pub record Premises (s : Setup) : Type 0 where
 
 -- ---- what may be done
 
--- bytes outside table and segments
+-- bytes of memory outside table and segments; those of a slice that would stand past 2 ^ 64 have no address to be changed at
 pub record Outside (s : Setup) (a k : ℕ) : Type 0 where
   pub memory : inside (s .mem) a k ≡ true
   pub table : Apart a k (s .table) (16 * s .entries)

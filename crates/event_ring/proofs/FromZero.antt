@@ -6,7 +6,7 @@ use mathlib.Core.Path.{_≡_, refl, sym, ap, ap₂, _∙_}
 use mathlib.Core.Bool.{Bool, true, false, cond, not, _&&_, Bool·beq}
 use mathlib.Core.List.{List, [], _∷_, _++_}
 use native.Mathlib.Omega.{arith}
-use lib.Dec.{eqb, leb}
+use lib.Dec.{eqb, leb, ltb}
 use lib.ListN.{length}
 use Rattle.guest.specs.Judge.{Tests, judge}
 use Rattle.guest.specs.Memory.{Memory, window, inside, trbAt, write}
@@ -16,7 +16,8 @@ use Rattle.guest.proofs.FromZero.{inside₀, le₀, part₀, write₀, inside-z
 use Rattle.trb.specs.Trb.{cycleOf}
 use Rattle.trb.specs.Events.{eventTests, eventBytes}
 use Rattle.trb.specs.declared.event.EventTrb.{EventTrb}
-use Rattle.event_ring.specs.Ring.{entryAt, goodEntry, countOk, okState, last, nextIndex, nextEntry, entered, along, nextState, entryTests, nextTests, refusedAt, movedTo, configureTests, started, configured, full, stepTests, addTests, added, addedMemory, readerAt, freshOf, takeTests, takeRefused, nothingAt, takenAt, take}
+use Rattle.event_ring.specs.Ring.{entryAt, goodEntry, countOk, okState, last, nextIndex, nextEntry, entered, along, nextState, entryTests, nextTests, refusedAt, movedTo, configureTests, started, configured, full, stepTests, addTests, added, addedMemory, readerAt, ofReader, readerConfigured, freshOf, takeTests, takeRefused, nothingAt, takenAt, take}
+use Rattle.event_ring.specs.Consumer.{Consumer, onward, Consumed, event, none, consume}
 use Rattle.event_ring.specs.declared.Entry.{Entry}
 use Rattle.event_ring.specs.declared.EventRing.{EventRing}
 use Rattle.event_ring.specs.declared.EventReader.{EventReader}
@@ -82,6 +83,19 @@ take₀ m r =
     judge ((4, okState s) ∷ (1, inside₀ m (s .place) 16) ∷ cond (fresh₀ m s) (nextTests₀ m s) []) (takeRefused r)
     (cond (fresh₀ m s) (takenAt (part₀ m (s .place) 16) (nextState₀ m s)) (nothingAt r))
 
+abbrev pub consume₀ : List ℕ → ℕ → ℕ → Consumer → Consumed
+consume₀ m table entries k =
+    let e = entryAt₀ m (table + 16 * k .segment) in
+    let trb = part₀ m (e .base + 16 * k .slot) 16 in
+    cond (Bool·beq (cycleOf trb) (k .cycle))
+    (event trb
+    (cond (ltb (k .slot + 1) (e .size))
+    (record { segment = k .segment; slot = k .slot + 1; cycle = k .cycle })
+    (cond (ltb (k .segment + 1) entries)
+    (record { segment = k .segment + 1; slot = 0; cycle = k .cycle })
+    (record { segment = 0; slot = 0; cycle = not (k .cycle) }))))
+    none
+
 -- ---- the window that begins at 0
 
 module _ (l : List ℕ) where
@@ -100,6 +114,16 @@ module _ (l : List ℕ) where
   unfolding configured
   configured-zero s table entries =
       rw (inside-zero l table (16 * entries), good-entry-zero table) (rw (entry-zero table))
+
+  pub readerConfigured-zero : (r : EventReader) (table entries : ℕ)
+      → readerConfigured (window 0 l) r table entries ≡ ofReader (configured₀ l (r .state) table entries)
+  unfolding readerConfigured
+  readerConfigured-zero r table entries = ap ofReader (configured-zero (r .state) table entries)
+
+  -- the consumer of xHCI 4.9.4
+  pub consume-zero : (table entries : ℕ) (k : Consumer) → consume (window 0 l) table entries k ≡ consume₀ l table entries k
+  unfolding onward
+  consume-zero table entries k = rw (entry-zero (table + 16 * k .segment), part-zero l (entryAt₀ l (table + 16 * k .segment) .base + 16 * k .slot) 16)
 
   tests-zero : (s : EventRing) → nextTests (window 0 l) s ≡ nextTests₀ l s
   unfolding nextTests

@@ -80,7 +80,7 @@ module _ (d : ℕ) (m m′ : Memory) (M : Further d m m′) (lines : d % 64 ≡ 
 
   -- ---- the slot after the present one
 
-  module _ (room : m′ .start + length (m′ .bytes) < 2 ^ 64) (s : EventRing) (E : EntryUp d m m′ (s .table + 16 * nextIndex s)) where
+  module _ (s : EventRing) (room : last s ≡ false → s .place + d + 16 < 2 ^ 64) (E : last s ≡ true → EntryUp d m m′ (s .table + 16 * nextIndex s)) where
     next-index-up : nextIndex (ringUp d s) ≡ nextIndex s
     unfolding nextIndex
     next-index-up = refl
@@ -88,39 +88,38 @@ module _ (d : ℕ) (m m′ : Memory) (M : Further d m m′) (lines : d % 64 ≡ 
     entry-address : ringUp d s .table + 16 * nextIndex (ringUp d s) ≡ s .table + 16 * nextIndex s + d
     entry-address = rw next-index-up (omega arith)
 
-    entry-up : inside m (s .table + 16 * nextIndex s) 16 ≡ true → nextEntry m′ (ringUp d s) ≡ entryUp (nextEntry m s)
-    entry-up i = rw entry-address (E i)
+    entry-up : last s ≡ true → inside m (s .table + 16 * nextIndex s) 16 ≡ true → nextEntry m′ (ringUp d s) ≡ entryUp (nextEntry m s)
+    entry-up h i = rw entry-address (E h i)
 
     -- in the segment, where the slot is inside
-    along-up : inside m (s .place) 16 ≡ true → along (ringUp d s) ≡ ringUp d (along s)
-    along-up i =
-        let w = inside-within m (s .place) 16 i in
-        let e : (s .place + d + 16) % 2 ^ 64 ≡ (s .place + 16) % 2 ^ 64 + d = omega (arith, w .from, w .fits, M .start, M .long, room) in
+    along-up : last s ≡ false → along (ringUp d s) ≡ ringUp d (along s)
+    along-up h =
+        let e : (s .place + d + 16) % 2 ^ 64 ≡ (s .place + 16) % 2 ^ 64 + d = omega (arith, room h) in
         ap (λ (p : ℕ). record { ready = s .ready; table = s .table + d; entries = s .entries; index = s .index; place = p; remaining = s .remaining - 1; cycle = s .cycle }) e
 
-    entered-up : inside m (s .table + 16 * nextIndex s) 16 ≡ true
+    entered-up : last s ≡ true → inside m (s .table + 16 * nextIndex s) 16 ≡ true
         → entered (ringUp d s) (nextIndex (ringUp d s)) (nextEntry m′ (ringUp d s)) ≡ ringUp d (entered s (nextIndex s) (nextEntry m s))
-    entered-up i = rw (entry-up i, next-index-up)
+    entered-up h i = rw (entry-up h i, next-index-up)
 
     next-up : (b : Bool) → last s ≡ b → inside m (s .place) 16 ≡ true → Passes (cond b (entryTests m s) [])
         → nextState m′ (ringUp d s) ≡ ringUp d (nextState m s)
     unfolding nextState
-    next-up true h i p = rw h (entered-up (p .0))
-    next-up false h i p = rw h (along-up i)
+    next-up true h i p = rw h (entered-up h (p .0))
+    next-up false h i p = rw h (along-up h)
 
     -- the tests of the next entry, and those after them, which may ask what the entry's have found
     next-alike : (us vs : Tests) → (Passes (nextTests m s) → Alike us vs) → Alike (nextTests m s ++ us) (nextTests m′ (ringUp d s) ++ vs)
     unfolding nextTests
-    next-alike us vs rest = go (last s) rest
+    next-alike us vs rest = go (last s) refl rest
       where
-        go : (b : Bool) → (Passes (cond b (entryTests m s) []) → Alike us vs)
+        go : (b : Bool) → last s ≡ b → (Passes (cond b (entryTests m s) []) → Alike us vs)
             → Alike (cond b (entryTests m s) [] ++ us) (cond b (entryTests m′ (ringUp d s)) [] ++ vs)
-        go true rest = (
+        go true h rest = (
           refl,
           ap (λ (a : ℕ). inside m′ a 16) entry-address ∙ inside-further d m m′ M (s .table + 16 * nextIndex s) 16,
-          λ i. (refl, ap (goodEntry m′) (entry-up i) ∙ good-up (nextEntry m s), λ g. rest (i, (g, tt))),
+          λ i. (refl, ap (goodEntry m′) (entry-up h i) ∙ good-up (nextEntry m s), λ g. rest (i, (g, tt))),
         )
-        go false rest = rest tt
+        go false h rest = rest tt
 
     -- ---- add
 
@@ -176,10 +175,10 @@ module _ (d : ℕ) (m m′ : Memory) (M : Further d m m′) (lines : d % 64 ≡ 
 
   -- ---- take
 
-  pub take-up : m′ .start + length (m′ .bytes) < 2 ^ 64 → (r : EventReader) → EntryUp d m m′ (r .state .table + 16 * nextIndex (r .state)) → SlotUp d m m′ (r .state .place)
+  pub take-up : (r : EventReader) → (last (r .state) ≡ false → r .state .place + d + 16 < 2 ^ 64) → (last (r .state) ≡ true → EntryUp d m m′ (r .state .table + 16 * nextIndex (r .state))) → SlotUp d m m′ (r .state .place)
       → take m′ (readerUp d r) ≡ takenUp d (take m r)
   unfolding take nextTests
-  take-up room r E S =
+  take-up r room E S =
       judge-alike (takenUp d) (takeTests m s) (takeTests m′ (ringUp d s)) (takeRefused r) (takeRefused (readerUp d r))
       (cond (freshOf m s) (takenAt (trbAt m (s .place)) (nextState m s)) (nothingAt r))
       (cond (freshOf m′ (ringUp d s)) (takenAt (trbAt m′ (s .place + d)) (nextState m′ (ringUp d s))) (nothingAt (readerUp d r)))
@@ -197,11 +196,11 @@ module _ (d : ℕ) (m m′ : Memory) (M : Further d m m′) (lines : d % 64 ≡ 
       tests i = rw (fresh-up i) (go (freshOf m s))
         where
           go : (f : Bool) → Alike (cond f (nextTests m s) []) (cond f (nextTests m′ (ringUp d s)) [])
-          go true = rw (append-nil (nextTests m s), append-nil (nextTests m′ (ringUp d s))) at (next-alike room s E [] [] (λ p. tt))
+          go true = rw (append-nil (nextTests m s), append-nil (nextTests m′ (ringUp d s))) at (next-alike s room E [] [] (λ p. tt))
           go false = tt
 
       gives : (f : Bool) → freshOf m s ≡ f → inside m (s .place) 16 ≡ true → Passes (cond (freshOf m s) (nextTests m s) [])
           → cond (freshOf m′ (ringUp d s)) (takenAt (trbAt m′ (s .place + d)) (nextState m′ (ringUp d s))) (nothingAt (readerUp d r))
           ≡ takenUp d (cond (freshOf m s) (takenAt (trbAt m (s .place)) (nextState m s)) (nothingAt r))
-      gives true h i p = rw (fresh-up i, h, S i, next-up room s E (last s) refl i (rw h at p))
+      gives true h i p = rw (fresh-up i, h, S i, next-up s room E (last s) refl i (rw h at p))
       gives false h i p = rw (fresh-up i, h)

@@ -7,37 +7,16 @@ use mathlib.Core.Bool.{true, cond}
 use mathlib.Core.List.{List, [], _∷_}
 use lib.ListN.{length}
 use lib.Dec.{ltb}
+use Rattle.guest.specs.Faults.{Not, Faults, FirstOf, Inside}
 use Rattle.guest.specs.Memory.{Memory, byte, le, trbAt}
 use Rattle.trb.specs.Trb.{cycleOf}
 use Rattle.trb.specs.declared.event.EventTrb.{EventTrb}
 use Rattle.event_ring.specs.declared.EventRing.{EventRing}
 use Rattle.event_ring.specs.declared.Take.{Take}
 
--- ---- faults in their order
-
-abbrev pub Not : Type 0 → Type 0
-Not A = A → ⊥
-
--- each fault stands with the number of its refusal
-abbrev pub Faults : Type 1
-Faults = List (ℕ × Type 0)
-
--- the number is that of the first fault that there is, 0 if there is none
-pub data FirstOf : Faults → ℕ → Type 1 where
-  none : FirstOf [] 0
-  this : {number : ℕ} {fault : Type 0} {faults : Faults} → fault → FirstOf ((number, fault) ∷ faults) number
-  later : {number n : ℕ} {fault : Type 0} {faults : Faults} → Not fault → FirstOf faults n → FirstOf ((number, fault) ∷ faults) n
-
 -- ---- what document 01 asks
 
--- 1: all bytes to be touched are inside the lent window: the address is at least its start, address plus length does not pass 2 ^ 64, and
--- does not pass the window's end either
-pub record Inside (m : Memory) (a k : ℕ) : Type 0 where
-  pub from : m .start ≤ a
-  pub below : a + k ≤ 2 ^ 64
-  pub within : a + k ≤ m .start + length (m .bytes)
-
--- 5: a segment entry, base at 0 (8 bytes) and size at 8 (4 bytes): the base a multiple of 64, the size 1 to 4096, the end inside memory
+-- 5: a segment entry, base at 0 (8 bytes) and size at 8 (4 bytes): the base a multiple of 64, the size 1 to 4096, the whole segment inside memory
 pub record Allowed (m : Memory) (entry : ℕ) : Type 0 where
   pub aligned : le m entry 8 % 64 ≡ 0
   pub some : 1 ≤ le m (entry + 8) 4

@@ -12,10 +12,11 @@ use lib.ListN.{length, getD, take, drop, replicate}
 use Rattle.guest.specs.Judge.{judge}
 use Rattle.guest.specs.Bytes as bytes
 use Rattle.guest.specs.Memory.{Memory, window, inside, byte, le, part, write}
-use Rattle.guest.specs.Answers.{numberAt, trbRead, writeNumber, writeMemory}
+use Rattle.guest.specs.Answers.{numberAt, trbRead, noSlot, slotOf, slotRead, writeNumber, writeMemory, offsetOf, partOf}
 use Rattle.guest.specs.declared.Number.{Number}
 use Rattle.guest.specs.declared.Number.the-variants.{Value, Refused}
 use Rattle.guest.specs.declared.TrbAnswer.{TrbAnswer}
+use Rattle.guest.specs.declared.SlotAnswer.{SlotAnswer}
 
 -- ---- document 01's memory
 
@@ -45,6 +46,16 @@ numberAt₀ m a k = judge₀ m a k Refused (Value (le₀ m a k))
 
 abbrev pub trbRead₀ : List ℕ → ℕ → TrbAnswer
 trbRead₀ m a = judge₀ m a 16 (λ n. record { refusal = n; trb = replicate 16 0 }) (record { refusal = 0; trb = part₀ m a 16 })
+
+abbrev pub slotRead₀ : List ℕ → ℕ → SlotAnswer
+slotRead₀ m a = judge₀ m a 16 noSlot (slotOf (part₀ m a 16))
+
+-- the bytes themselves, none beside a refusal, and where they begin, 0 beside a refusal
+abbrev pub partOf₀ : List ℕ → ℕ → ℕ → List ℕ
+partOf₀ m a k = judge₀ m a k (λ n. []) (part₀ m a k)
+
+abbrev pub offsetOf₀ : List ℕ → ℕ → ℕ → ℕ
+offsetOf₀ m a k = judge₀ m a k (λ n. 0) a
 
 abbrev pub writeNumber₀ : List ℕ → ℕ → ℕ
 writeNumber₀ m a = judge₀ m a 16 (λ n. n) 0
@@ -85,6 +96,15 @@ module _ (l : List ℕ) (a : ℕ) where
   trbRead-zero =
       ap₂ (λ (b : Bool) (trb : List ℕ). judge {A = TrbAnswer} ((1, b) ∷ []) (λ n. record { refusal = n; trb = replicate 16 0 }) (record { refusal = 0; trb = trb }))
       (inside-zero 16) (part-zero 16)
+
+  pub slotRead-zero : slotRead (window 0 l) a ≡ slotRead₀ l a
+  slotRead-zero = ap₂ (λ (b : Bool) (trb : List ℕ). judge ((1, b) ∷ []) noSlot (slotOf trb)) (inside-zero 16) (part-zero 16)
+
+  pub partOf-zero : (k : ℕ) → partOf (window 0 l) a k ≡ partOf₀ l a k
+  partOf-zero k = ap₂ (λ (b : Bool) (p : List ℕ). judge ((1, b) ∷ []) (λ (n : ℕ). []) p) (inside-zero k) (part-zero k)
+
+  pub offsetOf-zero : (k : ℕ) → offsetOf (window 0 l) a k ≡ offsetOf₀ l a k
+  offsetOf-zero k = ap₂ (λ (b : Bool) (p : ℕ). judge ((1, b) ∷ []) (λ (n : ℕ). 0) p) (inside-zero k) (sub-zero a)
 
   pub writeNumber-zero : writeNumber (window 0 l) a ≡ writeNumber₀ l a
   writeNumber-zero = ap (λ (b : Bool). judge ((1, b) ∷ []) (λ (n : ℕ). n) 0) (inside-zero 16)

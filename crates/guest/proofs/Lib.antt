@@ -4,5 +4,6 @@ pub mod Bytes
 pub mod Memory
 pub mod Fields
 pub mod Answers
+pub mod Faults
 pub mod FromZero
 pub mod Further

@@ -4,4 +4,5 @@ pub mod Bytes
 pub mod Memory
 pub mod Fields
 pub mod Answers
+pub mod Faults
 pub mod Further

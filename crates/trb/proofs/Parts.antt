@@ -1,14 +1,18 @@
 -- What the number of a data part says: the part lies inside where it is 0, and is empty where it is not. Assumes nothing.
-use mathlib.Core.Path.{_≡_, _∙_}
-use mathlib.Core.List.{[]}
+use mathlib.Core.Path.{_≡_, refl, sym, _∙_}
+use mathlib.Core.Bool.{Bool, true, false, cond, true≢false}
+use mathlib.Core.List.{[], _∷_}
 use Prim.{tt}
 use Prim.Native.Nat.{ℕ}
 use lib.Dec.{lit<}
 use borrow.Author.Tests.{ne-eqb}
-use Rattle.guest.specs.Memory.{Memory, offset, part}
+use Rattle.guest.specs.Faults.{Not, FirstOf, none, this, later, Inside}
+use Rattle.guest.specs.Judge.{judge}
+use Rattle.guest.specs.Memory.{Memory, inside, offset, part}
+use Rattle.guest.proofs.Faults.{asks, says-inside}
 use Rattle.guest.proofs.Judge.{Numbered, none-passes, judge-passes, judge-number}
 use Rattle.guest.proofs.Memory.{Within, inside-within}
-use Rattle.trb.specs.Data.{dataTests, dataRefusal, dataOf, dataOffset}
+use Rattle.trb.specs.Data.{dataTests, dataFaults, dataRefusal, dataOf, dataOffset}
 use Rattle.trb.specs.declared.data.TrbDmaInfo.{TrbDmaInfo}
 
 numbered : (m : Memory) (i : TrbDmaInfo) → Numbered (dataTests m i)
@@ -40,3 +44,15 @@ withheld m i n =
       bytes = judge-number (dataTests m i) _ _ (numbered m i) ∙ rw (ne-eqb _ 0 n);
       offset = judge-number (dataTests m i) _ _ (numbered m i) ∙ rw (ne-eqb _ 0 n);
     }
+
+-- it is refused exactly as document 01 says
+pub data-refused : (m : Memory) (i : TrbDmaInfo) → FirstOf (dataFaults m i) (dataRefusal m i)
+unfolding dataRefusal judge
+data-refused m i = go (i .«immediate_data») refl
+  where
+    inner : FirstOf ((1, Not (Inside m (i .«data_pointer») (i .«transfer_length»))) ∷ []) (cond (inside m (i .«data_pointer») (i .«transfer_length»)) 0 1)
+    inner = asks (inside m (i .«data_pointer») (i .«transfer_length»)) 1 (says-inside m (i .«data_pointer») (i .«transfer_length»)) (λ _. none)
+
+    go : (b : Bool) → i .«immediate_data» ≡ b → FirstOf (dataFaults m i) (dataRefusal m i)
+    go true h = rw h (this refl)
+    go false h = rw h (later (λ e. true≢false (sym e)) inner)

@@ -92,9 +92,10 @@ fn the_empty_part_at_the_end() {
 
 #[test]
 fn bytes_past_the_last_address_have_none() {
-    let bytes = [7; 32];
+    let bytes: [u8; 32] = core::array::from_fn(|i| i as u8);
     let memory = GuestMemory::at(u64::MAX - 15, &bytes);
-    assert_eq!(memory.read_trb(u64::MAX - 15), Ok([7; 16]));
+    let first = core::array::from_fn(|i| i as u8);
+    assert_eq!(memory.read_trb(u64::MAX - 15), Ok(first));
     assert_eq!(memory.read_trb(u64::MAX - 14), Err(Refusal::Outside));
     assert_eq!(memory.read_trb(0), Err(Refusal::Outside));
     assert_eq!(memory.start(), u64::MAX - 15);
