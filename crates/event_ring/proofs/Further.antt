@@ -9,9 +9,10 @@ use native.Mathlib.Decide.{ℕ-discrete}
 use native.Mathlib.Omega.{arith}
 use borrow.Author.Tests.{eq-eqb, ne-eqb}
 use lib.Dec.{eqb, leb}
-use lib.ListN.{length}
+use lib.ListN.{length, replicate}
 use Rattle.guest.specs.Judge.{Tests, judge}
-use Rattle.guest.specs.Memory.{Memory, inside, trbAt, write}
+use Rattle.guest.specs.Bytes.{le, part}
+use Rattle.guest.specs.Memory.{Memory, window, inside, trbAt, write}
 use Rattle.guest.specs.Further.{Further}
 use Rattle.guest.proofs.Judge.{Passes, Alike, judge-alike}
 use Rattle.guest.proofs.Memory.{inside-within, inside-less}
@@ -204,3 +205,16 @@ module _ (d : ℕ) (m m′ : Memory) (M : Further d m m′) (lines : d % 64 ≡ 
           ≡ takenUp d (cond (freshOf m s) (takenAt (trbAt m (s .place)) (nextState m s)) (nothingAt r))
       gives true h i p = rw (fresh-up i, h, S i, next-up s room E (last s) refl i (rw h at p))
       gives false h i p = rw (fresh-up i, h)
+
+-- the premises can be met: a window of a table of one entry, whose segment is one slot after it, at 0 and at 64
+abbrev tableTo : ℕ → List ℕ
+tableTo base = base ∷ 0 ∷ 0 ∷ 0 ∷ 0 ∷ 0 ∷ 0 ∷ 0 ∷ 1 ∷ 0 ∷ 0 ∷ 0 ∷ 0 ∷ 0 ∷ 0 ∷ 0 ∷ replicate 64 0
+
+pub record UpMet : Type 0 where
+  pub further : Further 64 (window 0 (tableTo 64)) (window 64 (tableTo 128))
+  pub entry : EntryUp 64 (window 0 (tableTo 64)) (window 64 (tableTo 128)) 0
+  pub slot : SlotUp 64 (window 0 (tableTo 64)) (window 64 (tableTo 128)) 64
+
+pub up-met : UpMet
+unfolding entryAt le part
+up-met = record { further = record { start = refl; long = refl; below = omega arith }; entry = λ i. refl; slot = λ i. refl }

@@ -2,8 +2,10 @@
 use Prim.Native.Nat.{ℕ, zero, suc, _+_}
 use mathlib.Core.Path.{_≡_, refl}
 use mathlib.Core.Bool.{Bool, true, false}
-use mathlib.Core.List.{List}
-use Rattle.guest.specs.Memory.{Memory, inside, trbAt}
+use mathlib.Core.List.{List, [], _∷_}
+use native.Mathlib.Omega.{arith}
+use Rattle.guest.specs.Bytes.{le, part}
+use Rattle.guest.specs.Memory.{Memory, window, inside, trbAt}
 use Rattle.guest.proofs.Further.{inside-further}
 use Rattle.trb.specs.Links.{linkOf}
 use Rattle.trb.specs.declared.link.LinkTrb.{LinkTrb}
@@ -51,3 +53,15 @@ module _ (d : ℕ) (m m′ : Memory) (P : ℕ → Type 0) (W : WindowUp d m m′
   pub chase-up : P (e .place) → chase m′ (ringUp d e) ≡ chaseUp d (chase m e)
   unfolding chase
   chase-up p = look-up e unnoted (onward m e 256 e unnoted) (onward m′ (ringUp d e) 256 (ringUp d e) unnoted) p (onward-up 256 e unnoted)
+
+-- the premises can be met: a Link to itself at the start of a window that begins at 0, and of one that begins at 64
+abbrev linkTo : ℕ → List ℕ
+linkTo p = p ∷ 0 ∷ 0 ∷ 0 ∷ 0 ∷ 0 ∷ 0 ∷ 0 ∷ 0 ∷ 0 ∷ 0 ∷ 0 ∷ 1 ∷ 0x18 ∷ 0 ∷ 0 ∷ []
+
+pub chase-up-met : WindowUp 64 (window 0 (linkTo 0)) (window 64 (linkTo 64)) (λ a. a ≡ 0)
+unfolding linkOf le part
+chase-up-met =
+    record {
+      further = record { start = refl; long = refl; below = omega arith };
+      slots = λ a e i. rw e (refl, refl, refl);
+    }
