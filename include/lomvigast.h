@@ -7,9 +7,11 @@
  * kept between calls, and there is no global state: calls may run at the same time where what they are lent is apart, or only
  * read by all of them.
  *
- * Guest memory is lent for one call as `mem` and `len`: `len` bytes, of which the first has guest address 0. Nobody may write to
- * it during the call (the proofs are about memory that stands still), and where a call is given `uint8_t *mem` nobody may read
- * it either. With len 0 `mem` is not read, but must not be NULL.
+ * Guest memory is lent for one call as a window, `start`, `mem` and `len`: `len` bytes, of which the first has guest address
+ * `start`. k bytes from address a on are inside if a is at least start, a + k is at most 2^64, and a - start + k is at most len.
+ * A window may end at 2^64; bytes that would stand beyond have no address. Nobody may write to it during the call (the proofs are
+ * about memory that stands still), and where a call is given `uint8_t *mem` nobody may read it either. With len 0 `mem` is not
+ * read, but must not be NULL.
  *
  * Every pointer must be valid for the call, aligned as its type is, and point at nothing that another pointer of the same call
  * points at, guest memory among it. Two `const` pointers may meet.
@@ -41,7 +43,7 @@ enum lomvigast_refusal {
     LOMVIGAST_TABLE_ENTRIES = 3,
     /* The ring was never configured, or was reset, or its state breaks its own limits. */
     LOMVIGAST_STATE = 4,
-    /* A segment entry has a base that is no multiple of 64, a size of 0 or above 4096, or an end beyond memory. */
+    /* A segment entry has a base that is no multiple of 64, a size of 0 or above 4096, or slots that are not all inside memory. */
     LOMVIGAST_SEGMENT = 5,
     /* The reported place is not a multiple of 16. */
     LOMVIGAST_REPORT = 6,
@@ -288,9 +290,9 @@ struct lomvigast_number {
     uint8_t refusal;
 };
 
-/* A part's first guest address and its length; or the refusal's number, with 0s. */
+/* How far from the window's first byte a part begins, and its length; or the refusal's number, with 0s. */
 struct lomvigast_part {
-    uint64_t start;
+    uint64_t offset;
     uint32_t length;
     uint8_t refusal;
 };
@@ -326,11 +328,13 @@ uint8_t lomvigast_trb_type(uint64_t low, uint64_t high);
 bool lomvigast_cycle_bit(uint64_t low, uint64_t high);
 
 /* The part of memory that a Normal or Data Stage TRB points at, of its pointer, length and immediate-data flag; refused with 13
- * or 1, in this order. */
-struct lomvigast_part lomvigast_data(const uint8_t *mem, size_t len, uint64_t pointer, uint32_t length, bool immediate);
+ * or 1, in this order. It begins at `mem + offset`. */
+struct lomvigast_part lomvigast_data(
+    uint64_t start, const uint8_t *mem, size_t len, uint64_t pointer, uint32_t length, bool immediate);
 
 /* The refusal of lomvigast_data alone, or 0. */
-uint8_t lomvigast_data_refusal(const uint8_t *mem, size_t len, uint64_t pointer, uint32_t length, bool immediate);
+uint8_t lomvigast_data_refusal(
+    uint64_t start, const uint8_t *mem, size_t len, uint64_t pointer, uint32_t length, bool immediate);
 
 /* The completion code that a byte stands for, or refusal 12. */
 struct lomvigast_coded lomvigast_code_of(uint8_t byte);
@@ -341,18 +345,18 @@ uint8_t lomvigast_class_of(uint8_t byte);
 /* ---- liblomvigast_ffi.a: memory */
 
 /* Whether all of `length` bytes from `address` on are inside. */
-bool lomvigast_inside(const uint8_t *mem, size_t len, uint64_t address, uint64_t length);
+bool lomvigast_inside(uint64_t start, const uint8_t *mem, size_t len, uint64_t address, uint64_t length);
 
 /* The little-endian number of 2, 4 or 8 bytes at `address`; refused with 1. */
-struct lomvigast_number lomvigast_read2(const uint8_t *mem, size_t len, uint64_t address);
-struct lomvigast_number lomvigast_read4(const uint8_t *mem, size_t len, uint64_t address);
-struct lomvigast_number lomvigast_read8(const uint8_t *mem, size_t len, uint64_t address);
+struct lomvigast_number lomvigast_read2(uint64_t start, const uint8_t *mem, size_t len, uint64_t address);
+struct lomvigast_number lomvigast_read4(uint64_t start, const uint8_t *mem, size_t len, uint64_t address);
+struct lomvigast_number lomvigast_read8(uint64_t start, const uint8_t *mem, size_t len, uint64_t address);
 
 /* 0, and the TRB at `address` in `out`; or 1, and `out` is as it was. */
-uint8_t lomvigast_read_trb(const uint8_t *mem, size_t len, uint64_t address, struct lomvigast_trb *out);
+uint8_t lomvigast_read_trb(uint64_t start, const uint8_t *mem, size_t len, uint64_t address, struct lomvigast_trb *out);
 
 /* Writes a TRB to `address`, all of it or nothing: 0, or 1. */
-uint8_t lomvigast_write_trb(uint8_t *mem, size_t len, uint64_t address, uint64_t low, uint64_t high);
+uint8_t lomvigast_write_trb(uint64_t start, uint8_t *mem, size_t len, uint64_t address, uint64_t low, uint64_t high);
 
 /* ---- liblomvigast_ffi.a: command and transfer rings (xHCI 4.9.2, 4.11.5.1) */
 
@@ -360,7 +364,7 @@ uint8_t lomvigast_write_trb(uint8_t *mem, size_t len, uint64_t address, uint64_t
 void lomvigast_set_place(struct lomvigast_linked_ring *ring, uint64_t place, bool cycle);
 
 /* Looks for a fresh TRB, and follows up to 256 Links on the way. */
-struct lomvigast_chase lomvigast_next_trb(const uint8_t *mem, size_t len, struct lomvigast_linked_ring *ring);
+struct lomvigast_chase lomvigast_next_trb(uint64_t start, const uint8_t *mem, size_t len, struct lomvigast_linked_ring *ring);
 
 /* Goes on by one TRB, modulo 2^64. */
 void lomvigast_advance(struct lomvigast_linked_ring *ring);
@@ -371,16 +375,20 @@ void lomvigast_advance(struct lomvigast_linked_ring *ring);
 void lomvigast_reset(struct lomvigast_event_ring *ring);
 
 /* Puts it at the first slot of the first segment: 0; or 2, 3, 1 or 5, in this order. */
-uint8_t lomvigast_configure(const uint8_t *mem, size_t len, struct lomvigast_event_ring *ring, uint64_t table, uint16_t entries);
-uint8_t lomvigast_configure_reader(const uint8_t *mem, size_t len, struct lomvigast_event_ring *reader, uint64_t table, uint16_t entries);
+uint8_t lomvigast_configure(
+    uint64_t start, const uint8_t *mem, size_t len, struct lomvigast_event_ring *ring, uint64_t table, uint16_t entries);
+uint8_t lomvigast_configure_reader(
+    uint64_t start, const uint8_t *mem, size_t len, struct lomvigast_event_ring *reader, uint64_t table, uint16_t entries);
 
 /* Writes an event to the present slot and moves on, unless that would fill the last free slot. `report` is the place up to which
  * the driver has reported events as taken, ERDP with its low four bits cleared. 0; or 10, 12, 8, 4, 6, 1, 5 or 7, in this order. */
-uint8_t lomvigast_add(uint8_t *mem, size_t len, struct lomvigast_event_ring *ring, const union lomvigast_event *event, uint64_t report);
+uint8_t lomvigast_add(
+    uint64_t start, uint8_t *mem, size_t len, struct lomvigast_event_ring *ring, const union lomvigast_event *event, uint64_t report);
 
 /* Takes the next event: 0, and its TRB in `out`; LOMVIGAST_NOTHING if the slot is stale; or 4, 1 or 5, in this order. `out` is as
  * it was unless the answer is 0: after another it may still hold the event before. */
-uint8_t lomvigast_take(const uint8_t *mem, size_t len, struct lomvigast_event_ring *reader, struct lomvigast_trb *out);
+uint8_t lomvigast_take(
+    uint64_t start, const uint8_t *mem, size_t len, struct lomvigast_event_ring *reader, struct lomvigast_trb *out);
 
 #ifdef __cplusplus
 }

@@ -17,7 +17,7 @@ use borrow.Author.Tests.{eq-eqb, ne-eqb}
 use Rattle.guest.specs.Judge.{judge}
 use Rattle.guest.specs.Memory.{Memory, trbAt, write}
 use Rattle.guest.proofs.Judge.{judge-passes}
-use Rattle.guest.proofs.Memory.{write-length}
+use Rattle.guest.proofs.Memory.{Within, inside-within, write-length}
 use Rattle.trb.specs.Trb.{cycleOf}
 use Rattle.trb.specs.Events.{valid, Typed, eventBytes, eventOf}
 use Rattle.trb.specs.declared.event.EventTrb.{EventTrb}
@@ -32,8 +32,8 @@ use Rattle.delivery.specs.Demand3.{Setup, base, slots, Apart, Premises, 
 use Rattle.delivery.specs.Demand3 as demand
 use Rattle.delivery.proofs.Queue
 use Rattle.delivery.proofs.Memory.{Same, write-same, trb-same, trb-put}
-use Rattle.delivery.proofs.Walk.{walk, period, away, distinct, slot-apart, slot-within, slot-aligned, some-slots, zero-slot}
-use Rattle.delivery.proofs.Sound.{Kept, kept-earlier, sound, next-walk, add-judged, add-invalid, configures}
+use Rattle.delivery.proofs.Walk.{walk, period, away, distinct, slot-apart, slot-inside, slot-aligned, some-slots, zero-slot}
+use Rattle.delivery.proofs.Sound.{Kept, kept-earlier, inside-kept, table-from, sound, next-walk, add-judged, add-invalid, configures}
 use Rattle.delivery.proofs.Tables.{tables}
 use Rattle.delivery.proofs.Readers.{Reads, standard-reads, port-reads}
 
@@ -57,50 +57,57 @@ fits-valid (EventTrb.PortStatusChange t) = refl
 -- ---- writes
 
 module _ (s : Setup) (W : Premises s) (m : Memory) (K : Kept s m) where
-  module _ (a : ℕ) (v : List ℕ) (f : a + length v ≤ length m) where
+  -- table and slots are in the window
+  slot-here : (p : ℕ) → Within m (walk s p .place) 16
+  slot-here p = inside-within m _ 16 (inside-kept s W m K _ 16 (slot-inside s W p))
+
+  table-here : m .start ≤ s .table
+  table-here = omega (arith, K .start, table-from s W m K)
+
+  module _ (a : ℕ) (v : List ℕ) (f : Within m a (length v)) where
     kept-write : Same m (write m a v) (s .table) (16 * s .entries) → Kept s (write m a v)
-    kept-write same = record { len = write-length m a v f ∙ K .len; table = λ x l u. same x l u ∙ K .table x l u }
+    kept-write same = record { start = K .start; len = write-length m a v f ∙ K .len; table = λ x l u. same x l u ∙ K .table x l u }
 
     look-write : (p : ℕ) → Same m (write m a v) (walk s p .place) 16 → look s (write m a v) p ≡ look s m p
-    look-write p = trb-same m (write m a v) (walk s p .place) (omega (arith, slot-within s W p, K .len)) (write-length m a v f)
+    look-write p = trb-same m (write m a v) refl (walk s p .place) (slot-here p) (write-length m a v f)
 
-  fits-outside : (a : ℕ) (v : List ℕ) → Outside s a (length v) → a + length v ≤ length m
-  fits-outside a v O = omega (arith, O .memory, K .len)
+  fits-outside : (a : ℕ) (v : List ℕ) → Outside s a (length v) → Within m a (length v)
+  fits-outside a v O = inside-within m a (length v) (inside-kept s W m K a (length v) (O .memory))
 
   kept-outside : (a : ℕ) (v : List ℕ) → Outside s a (length v) → Kept s (write m a v)
-  kept-outside a v O = kept-write a v (fits-outside a v O) (write-same m a v (fits-outside a v O) (s .table) (16 * s .entries) (O .table))
+  kept-outside a v O = kept-write a v (fits-outside a v O) (write-same m a v (fits-outside a v O) (s .table) (16 * s .entries) table-here (O .table))
 
   look-outside : (a : ℕ) (v : List ℕ) → Outside s a (length v) → (p : ℕ) → look s (write m a v) p ≡ look s m p
   look-outside a v O p =
       look-write a v (fits-outside a v O) p
-      (write-same m a v (fits-outside a v O) (walk s p .place) 16 (⊎-swap (slot-apart s W a (length v) p (λ j h. ⊎-swap (O .segment j h)))))
+      (write-same m a v (fits-outside a v O) (walk s p .place) 16 (slot-here p .from) (⊎-swap (slot-apart s W a (length v) p (λ j h. ⊎-swap (O .segment j h)))))
 
   -- a TRB put at position a keeps the table, stands there and a lap later, and leaves the positions between
   module _ (a : ℕ) (v : List ℕ) (n : length v ≡ 16) where
     put : Memory
     put = write m (walk s a .place) v
 
-    fits-put : walk s a .place + length v ≤ length m
-    fits-put = omega (arith, slot-within s W a, K .len)
+    fits-put : Within m (walk s a .place) (length v)
+    fits-put = rw n (slot-here a)
 
-    put-apart : (b k : ℕ) → Apart (walk s a .place) 16 b k → Same m put b k
+    put-apart : (b k : ℕ) → m .start ≤ b → Apart (walk s a .place) 16 b k → Same m put b k
     unfolding put
-    put-apart b k h = write-same m (walk s a .place) v fits-put b k (subst (λ (l : ℕ). Apart (walk s a .place) l b k) (sym n) h)
+    put-apart b k f h = write-same m (walk s a .place) v fits-put b k f (subst (λ (l : ℕ). Apart (walk s a .place) l b k) (sym n) h)
 
     kept-put : Kept s put
     unfolding put
-    kept-put = kept-write (walk s a .place) v fits-put (put-apart _ _ (slot-apart s W _ _ a (tables s W)))
+    kept-put = kept-write (walk s a .place) v fits-put (put-apart _ _ table-here (slot-apart s W _ _ a (tables s W)))
 
     look-put : look s put a ≡ v
     unfolding put
-    look-put = trb-put m v (walk s a .place) n (omega (arith, slot-within s W a, K .len))
+    look-put = trb-put m v (walk s a .place) n fits-put
 
     look-again : look s put (a + slots s) ≡ v
     look-again = rw (period s W a) look-put
 
     look-others : (p : ℕ) → p ≢ a → p < a + slots s → a < p + slots s → look s put p ≡ look s m p
     unfolding put
-    look-others p d h l = look-write (walk s a .place) v fits-put p (put-apart (walk s p .place) 16 (go (decLt p a)))
+    look-others p d h l = look-write (walk s a .place) v fits-put p (put-apart (walk s p .place) 16 (slot-here p .from) (go (decLt p a)))
       where
         go : Dec (p < a) → Apart (walk s a .place) 16 (walk s p .place) 16
         go (yes lt) = ⊎-swap (away s W p a lt l)
@@ -312,7 +319,7 @@ module _ (s : Setup) (W : Premises s) (R : Reader) (Q : Reads s R) where
   unfolding walk
   start-inv =
       record {
-        kept = record { len = refl; table = λ x low high. refl };
+        kept = record { start = refl; len = refl; table = λ x low high. refl };
         ringAt = ap (λ (x : Moved). x .ring) ring-configured;
         readerAt = Q .starts;
         reportAt = first-place;

@@ -22,7 +22,7 @@ use Rattle.event_ring.proofs.Standard.{StandsAt, steps}
 use Rattle.delivery.specs.Demand3.{Setup, base, size, Premises}
 use Rattle.delivery.specs.World.{Found, found, none, Reader, standardReader, portReader, consumed, tookAs}
 use Rattle.delivery.proofs.Walk.{walk, at, on, good-at, first}
-use Rattle.delivery.proofs.Sound.{Sound, Kept, kept-earlier, sound, next-walk, table-entry, take-passes, configures}
+use Rattle.delivery.proofs.Sound.{Sound, Kept, kept-earlier, next-passes, sound, next-walk, table-entry, take-passes, configures}
 
 fresh-yes : (b c : Bool) → b ≡ c → Bool·beq b c ≡ true
 fresh-yes true c e = rw (← e)
@@ -108,11 +108,13 @@ module _ (s : Setup) (W : Premises s) where
 
   standard-starts : standsAt (s .mem) (record { segment = 0; slot = 0; cycle = true }) 0
   unfolding at
-  standard-starts = rw (first s W) (record { segment = refl; place = refl; left = omega arith; cycle = refl })
+  standard-starts =
+      rw (first s W)
+      (record { segment = refl; place = refl; left = omega arith; below = omega (arith, good-at s W 0 (W .some) .within .below); cycle = refl })
 
   standard-steps : (m : Memory) → Kept s m → (k : Consumer) (p : ℕ) → standsAt m k p → standsAt m (onward m (s .table) (s .entries) k) (p + 1)
   standard-steps m K k p a =
-      let next = steps m (walk s p) k (limits (walk s p) (sound s W m K p .state)) a in
+      let next = steps m (walk s p) k (limits (walk s p) (sound s W m K p .state)) (next-passes m (walk s p) (sound s W m K p .next)) a in
       rw (add-one p) (rw (next-walk s W m K p, walk-table p, walk-entries p) at next)
 
   standard-stays : (m m′ : Memory) → Kept s m → Kept s m′ → (k : Consumer) (p : ℕ) → standsAt m k p → standsAt m′ k p
@@ -124,6 +126,7 @@ module _ (s : Setup) (W : Premises s) where
         segment = a .segment;
         place = a .place ∙ sym (ap (λ (e : Entry). e .base + 16 * k .slot) same);
         left = a .left ∙ sym (ap (λ (e : Entry). e .size) same);
+        below = a .below;
         cycle = a .cycle;
       }
 

@@ -14,7 +14,7 @@ use Rattle.guest.specs.Judge.{Tests, judge}
 use Rattle.guest.specs.Memory.{Memory, byte, inside}
 use Prim.{tt}
 use Rattle.guest.proofs.Judge.{Passes, judge-passes}
-use Rattle.guest.proofs.Memory.{inside-le, inside-less, inside-add}
+use Rattle.guest.proofs.Memory.{inside-within, inside-part}
 use Rattle.trb.specs.Events.{valid}
 use Rattle.trb.specs.declared.event.EventTrb.{EventTrb}
 use Rattle.event_ring.specs.Ring.{entryAt, entryOf, goodEntry, countOk, okState, last, nextIndex, entered, along, nextState, entryTests, nextTests, full, addTests, configureTests, started, configured, refusedAt, movedTo, freshOf, takeTests}
@@ -32,7 +32,7 @@ pub record Sound (m : Memory) (r : EventRing) : Type 0 where
   pub slot : inside m (r .place) 16 ≡ true
   pub next : Passes (entryTests m r)
 
-next-passes : (m : Memory) (r : EventRing) → Passes (entryTests m r) → Passes (nextTests m r)
+pub next-passes : (m : Memory) (r : EventRing) → Passes (entryTests m r) → Passes (nextTests m r)
 unfolding nextTests
 next-passes m r p = go (last r)
   where
@@ -64,30 +64,36 @@ pub add-invalid : (m : Memory) (r : EventRing) (e : EventTrb) (report : ℕ) →
 unfolding judge
 add-invalid m r e report v refuse b = rw v
 
--- ---- memories of the set-up's length, whose table is the set-up's
+-- ---- windows as the set-up's, whose table is the set-up's
 
 pub record Kept (s : Setup) (m : Memory) : Type 0 where
-  pub len : length m ≡ length (s .mem)
+  pub start : m .start ≡ s .mem .start
+  pub len : length (m .bytes) ≡ length (s .mem .bytes)
   pub table : Same (s .mem) m (s .table) (16 * s .entries)
 
 pub kept-earlier : (s : Setup) (m : Memory) → Earlier s m → Kept s m
 kept-earlier s m e =
     record {
+      start = e .start;
       len = e .long;
       table = λ x l u. subst (λ (y : ℕ). byte m y ≡ byte (s .mem) y) (omega arith) (e .table (x - s .table) (omega arith));
     }
 
-inside-same : (m m′ : Memory) (a k : ℕ) → length m′ ≡ length m → inside m a k ≡ true → inside m′ a k ≡ true
-unfolding inside
-inside-same m m′ a k e h = rw e h
-
-good-same : (m m′ : Memory) (e : Entry) → length m′ ≡ length m → goodEntry m e ≡ true → goodEntry m′ e ≡ true
-unfolding goodEntry inside
-good-same m m′ e l h = rw l h
-
 module _ (s : Setup) (W : Premises s) (m : Memory) (K : Kept s m) where
+  pub inside-kept : (a k : ℕ) → inside (s .mem) a k ≡ true → inside m a k ≡ true
+  unfolding inside
+  inside-kept a k h = rw (K .start, K .len) h
+
+  good-kept : (e : Entry) → goodEntry (s .mem) e ≡ true → goodEntry m e ≡ true
+  unfolding goodEntry inside
+  good-kept e h = rw (K .start, K .len) h
+
+  pub table-from : s .mem .start ≤ s .table
+  table-from = inside-within (s .mem) (s .table) (16 * s .entries) (W .within) .from
+
   pub table-entry : (j : ℕ) → j < s .entries → entryOf m (s .table) j ≡ entryOf (s .mem) (s .table) j
-  table-entry j h = entry-same (s .mem) m (s .table + 16 * j) (λ x l u. K .table x (omega arith) (omega arith))
+  table-entry j h =
+      entry-same (s .mem) m (K .start) (s .table + 16 * j) (omega (arith, table-from)) (λ x l u. K .table x (omega arith) (omega arith))
 
   -- configuring accepts the table, and starts where the walk does
   first-entry : entryAt m (s .table) ≡ entryAt (s .mem) (s .table)
@@ -99,10 +105,10 @@ module _ (s : Setup) (W : Premises s) (m : Memory) (K : Kept s m) where
     (
       entries-counted s W,
       (
-        inside-same (s .mem) m (s .table) (16 * s .entries) (K .len) (W .within),
+        inside-kept (s .table) (16 * s .entries) (W .within),
         (
           rw first-entry
-              (good-same (s .mem) m (entryAt (s .mem) (s .table)) (K .len) (rw (← add-zero (s .table)) (entry-good s W 0 (W .some)))),
+              (good-kept (entryAt (s .mem) (s .table)) (rw (← add-zero (s .table)) (entry-good s W 0 (W .some)))),
           tt,
         ),
       ),
@@ -123,11 +129,6 @@ module _ (s : Setup) (W : Premises s) (m : Memory) (K : Kept s m) where
       go (yes e) = rw (eq-eqb (j + 1) (s .entries) e) (omega arith)
       go (no n) = rw (ne-eqb (j + 1) (s .entries) n) (omega arith)
 
-  -- a part of what is inside
-  inside-part : (a k b : ℕ) → inside (s .mem) a k ≡ true → b + 16 ≤ k → inside m (a + b) 16 ≡ true
-  inside-part a k b h n =
-      inside-same (s .mem) m (a + b) 16 (K .len) (inside-add (s .mem) a b 16 ∙ inside-less (s .mem) a k (b + 16) h n)
-
   sound-at : (j i : ℕ) (c : Bool) → j < s .entries → i < size s j → Sound m (at s j i c)
   unfolding at okState
   sound-at j i c jn ij =
@@ -144,10 +145,10 @@ module _ (s : Setup) (W : Premises s) (m : Memory) (K : Kept s m) where
               eq-eqb (s .table % 64) 0 (W .aligned),
               eq-eqb ((base s j + 16 * i) % 16) 0 (omega (arith, g .aligned)),
             );
-        slot = inside-part (base s j) (16 * size s j) (16 * i) (g .memory) (omega arith);
+        slot = inside-kept _ 16 (inside-part (s .mem) (base s j) (16 * size s j) (16 * i) 16 (g .memory) (omega arith));
         next = (
-          inside-part (s .table) (16 * s .entries) (16 * k) (W .within) (omega arith),
-          (rw (table-entry k kn) (good-same (s .mem) m (entryOf (s .mem) (s .table) k) (K .len) (entry-good s W k kn)), tt),
+          inside-kept _ 16 (inside-part (s .mem) (s .table) (16 * s .entries) (16 * k) 16 (W .within) (omega arith)),
+          (rw (table-entry k kn) (good-kept (entryOf (s .mem) (s .table) k) (entry-good s W k kn)), tt),
         );
       }
 

@@ -7,6 +7,7 @@ use native.Mathlib.Omega.{arith}
 use Rattle.guest.specs.Memory.{Memory, byte, le}
 use Rattle.event_ring.specs.Ring.{entryAt, entryOf}
 use Rattle.delivery.specs.Demand3.{Setup, base, size, Apart, Premises}
+use Rattle.delivery.proofs.Memory.{le-zero}
 use Rattle.delivery.proofs.Walk.{good-at}
 
 module _ (s : Setup) (W : Premises s) where
@@ -15,19 +16,13 @@ module _ (s : Setup) (W : Premises s) where
       let e : base s j + (x - base s j) ≡ x = omega arith in
       subst (λ (y : ℕ). byte (s .mem) y ≡ 0) e (W .zeros j h (x - base s j) (omega arith))
 
-  zero-le : (a : ℕ) → byte (s .mem) a ≡ 0 → byte (s .mem) (a + 1) ≡ 0 → byte (s .mem) (a + 1 + 1) ≡ 0 → byte (s .mem) (a + 1 + 1 + 1) ≡ 0
-      → le (s .mem) a 4 ≡ 0
-  unfolding le
-  zero-le a p q r t = rw (p, q, r, t)
-
   -- an entry that stands in a segment has size 0
   never : (j k : ℕ) → j < s .entries → k < s .entries → base s j ≤ s .table + 16 * k → s .table + 16 * k + 16 ≤ base s j + 16 * size s j → ⊥
   unfolding entryAt
   never j k h g l u =
       let a = s .table + 16 * k + 8 in
       let z : le (s .mem) a 4 ≡ 0 =
-      zero-le a (zero-at j h a (omega arith) (omega arith)) (zero-at j h (a + 1) (omega arith) (omega arith))
-      (zero-at j h (a + 1 + 1) (omega arith) (omega arith)) (zero-at j h (a + 1 + 1 + 1) (omega arith) (omega arith)) in
+      le-zero 4 (s .mem) a (omega (arith, good-at s W j h .within .from)) (λ x low high. zero-at j h x (omega arith) (omega arith)) in
       omega (arith, z, good-at s W k g .some)
 
   pub tables : (j : ℕ) → j < s .entries → Apart (base s j) (16 * size s j) (s .table) (16 * s .entries)

@@ -1,6 +1,6 @@
 -- The walk of the ring over a table that does not change: position p is where p steps from the set-up lead. A lap is as many steps as there
 -- are slots; a lap later the state is the same with the cycle flipped; positions less than a lap apart have slots apart. Assumes nothing.
-use Prim.Native.Nat.{ℕ, zero, suc, _+_, _*_, _-_, _%_, _≤_, _<_}
+use Prim.Native.Nat.{ℕ, zero, suc, _+_, _*_, _-_, _%_, _^_, _≤_, _<_}
 use mathlib.Core.Path.{_≡_, refl, sym, _∙_, ap, ap₂, subst}
 use mathlib.Core.Logic.{_≢_, _⊎_, inl, inr, ⊎-elim}
 use mathlib.Core.Bool.{Bool, true, false, not, cond, _&&_}
@@ -13,7 +13,7 @@ use lib.ListN.{length}
 use lib.Dec.{eqb}
 use borrow.Author.Tests.{eq-eqb, ne-eqb, le-leb}
 use Rattle.guest.specs.Memory.{Memory, byte, inside, trbAt}
-use Rattle.guest.proofs.Memory.{inside-le}
+use Rattle.guest.proofs.Memory.{Within, inside-within, inside-part}
 use Rattle.trb.specs.Trb.{cycleOf}
 use Rattle.event_ring.specs.Ring.{entryAt, entryOf, goodEntry, countOk, last, nextIndex, entered, along, nextState, started}
 use Rattle.event_ring.specs.declared.EventRing.{EventRing}
@@ -50,7 +50,7 @@ pub record GoodEntry (s : Setup) (j : ℕ) : Type 0 where
   pub aligned : base s j % 64 ≡ 0
   pub some : 1 ≤ size s j
   pub few : size s j ≤ 4096
-  pub within : base s j + 16 * size s j ≤ length (s .mem)
+  pub within : Within (s .mem) (base s j) (16 * size s j)
   pub memory : inside (s .mem) (base s j) (16 * size s j) ≡ true
 
 module _ (s : Setup) (W : Premises s) where
@@ -61,7 +61,7 @@ module _ (s : Setup) (W : Premises s) where
         aligned = g .aligned;
         some = g .some;
         few = g .most;
-        within = inside-le (s .mem) (base s j) (16 * size s j) (g .within);
+        within = inside-within (s .mem) (base s j) (16 * size s j) (g .within);
         memory = g .within;
       }
 
@@ -100,7 +100,9 @@ module _ (s : Setup) (W : Premises s) where
             cyc = c;
             seg< = jn;
             off< = h;
-            leads = rw (ne-eqb (size s j - i) 1 (omega arith)) (ap₂ (λ (p m : ℕ). standing s j p m c) (omega arith) (omega arith));
+            leads =
+                rw (ne-eqb (size s j - i) 1 (omega arith))
+                (ap₂ (λ (p m : ℕ). standing s j p m c) (omega (arith, good-at j jn .within .below)) (omega arith));
             counts = inl (omega arith, refl);
           }
       go (no n) (yes h) =
@@ -295,12 +297,12 @@ module _ (s : Setup) (W : Premises s) where
       let i : o .off < size s (o .seg) = o .off< in
       rw (o .is) (⊎-elim (λ l. inl (omega arith)) (λ l. inr (omega arith)) (h (o .seg) (o .seg<)))
 
-  pub slot-within : (p : ℕ) → walk s p .place + 16 ≤ length (s .mem)
+  pub slot-inside : (p : ℕ) → inside (s .mem) (walk s p .place) 16 ≡ true
   unfolding at
-  slot-within p =
+  slot-inside p =
       let o = on s W p in
       let i : o .off < size s (o .seg) = o .off< in
-      rw (o .is) (omega (arith, good-at s W (o .seg) (o .seg<) .within))
+      rw (o .is) (inside-part (s .mem) (base s (o .seg)) (16 * size s (o .seg)) (16 * o .off) 16 (good-at s W (o .seg) (o .seg<) .memory) (omega arith))
 
   pub slot-aligned : (p : ℕ) → walk s p .place % 16 ≡ 0
   unfolding at
@@ -316,7 +318,7 @@ module _ (s : Setup) (W : Premises s) where
       let l = lap s W p h in
       let i : l .off < size s (l .seg) = l .off< in
       rw (l .is)
-      (zero-cycle (s .mem) (base s (l .seg) + 16 * l .off)
+      (zero-cycle (s .mem) (base s (l .seg) + 16 * l .off) (omega (arith, good-at s W (l .seg) (l .seg<) .within .from))
       (λ x low high.
       let e : base s (l .seg) + (x - base s (l .seg)) ≡ x = omega arith in
       subst (λ (y : ℕ). byte (s .mem) y ≡ 0) e (W .zeros (l .seg) (l .seg<) (x - base s (l .seg)) (omega arith))))

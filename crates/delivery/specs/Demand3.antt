@@ -51,12 +51,13 @@ pub record Segment (s : Setup) (j : ℕ) : Type 0 where
   pub most : size s j ≤ 4096
   pub within : inside (s .mem) (base s j) (16 * size s j) ≡ true
 
--- a memory of the same length with the same table; what stands elsewhere then is not asked
+-- the same window with the same table; what stands elsewhere then is not asked
 pub record Earlier (s : Setup) (m : Memory) : Type 0 where
-  pub long : length m ≡ length (s .mem)
+  pub start : m .start ≡ s .mem .start
+  pub long : length (m .bytes) ≡ length (s .mem .bytes)
   pub table : (i : ℕ) → i < 16 * s .entries → byte m (s .table + i) ≡ byte (s .mem) (s .table + i)
 
--- said in numbers and not by the ring's own tests, so that a slip in those is a slip on one side only
+-- said in numbers, and of memory by `inside` alone, and not by the ring's own tests, so that a slip in those is a slip on one side only
 pub record Premises (s : Setup) : Type 0 where
   -- the table is as refusals 2, 3 and 1 allow
   pub aligned : s .table % 64 ≡ 0
@@ -73,9 +74,9 @@ pub record Premises (s : Setup) : Type 0 where
 
 -- ---- what may be done
 
--- bytes outside table and segments
+-- bytes of memory outside table and segments; those of a slice that would stand past 2 ^ 64 have no address to be changed at
 pub record Outside (s : Setup) (a k : ℕ) : Type 0 where
-  pub memory : a + k ≤ length (s .mem)
+  pub memory : inside (s .mem) a k ≡ true
   pub table : Apart a k (s .table) (16 * s .entries)
   pub segment : (j : ℕ) → j < s .entries → Apart a k (base s j) (16 * size s j)
 

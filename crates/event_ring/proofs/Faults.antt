@@ -1,7 +1,7 @@
 -- The refusals of configure, add and take are document 01's, said a second time as facts (specs/Faults.antt): for every input the number is that
 -- of the first fault. Assumes nothing.
 use Prim.{tt}
-use Prim.Native.Nat.{ℕ, _+_, _*_, _%_, _^_, _≤_, _<_}
+use Prim.Native.Nat.{ℕ, _+_, _-_, _*_, _%_, _^_, _≤_, _<_}
 use mathlib.Core.Path.{_≡_, refl, sym, ap, subst, _∙_}
 use mathlib.Core.Logic.{_⊎_, inl, inr}
 use mathlib.Core.Bool.{Bool, true, false, cond, not, _&&_, Bool·beq, true≢false}
@@ -14,13 +14,15 @@ use lib.ListN.{length, replicate}
 use Rattle.guest.specs.Judge.{Tests, judge, refusalOf}
 use Rattle.guest.specs.Memory.{Memory, inside, le, part, trbAt, write}
 use Rattle.guest.proofs.Judge.{judge-refusal, judge-by, judge-passes, answer-passes}
-use Rattle.guest.proofs.Memory.{inside-le, write-length, write-there, write-elsewhere}
+use Rattle.guest.specs.Faults.{Not, Faults, FirstOf, none, this, later, Inside}
+use Rattle.guest.proofs.Faults.{Says, says-eq, says-le, says-lt, says-bit, says-both, says-as, says-inside, asks, asks-where, asks-not}
+use Rattle.guest.proofs.Memory.{Within, inside-within, write-length, write-there, write-elsewhere}
 use Rattle.trb.specs.Trb.{cycleOf}
 use Rattle.trb.specs.Events.{valid, eventTests, eventBytes}
 use Rattle.trb.proofs.OneEncoding.{bytes-length}
 use Rattle.trb.specs.declared.event.EventTrb.{EventTrb}
 use Rattle.event_ring.specs.Ring.{entryAt, goodEntry, countOk, okState, last, nextIndex, nextState, entryTests, nextTests, configureTests, started, configured, refusedAt, movedTo, full, stepTests, addTests, added, addedMemory, empty, readerConfigured, freshOf, takeTests, takeRefused, take, numberOf}
-use Rattle.event_ring.specs.Faults.{Not, Faults, FirstOf, none, this, later, Inside, Allowed, Counted, Limits, Fits, Last, Full, Fresh, configureFaults, addFaults, takeFaults, refusedWith, Writes}
+use Rattle.event_ring.specs.Faults.{Allowed, Counted, Limits, Fits, Last, Full, Fresh, configureFaults, addFaults, takeFaults, refusedWith, Writes}
 use Rattle.event_ring.specs.Faults as paper
 use Rattle.event_ring.specs.declared.EventRing.{EventRing}
 use Rattle.event_ring.specs.declared.EventReader.{EventReader}
@@ -30,54 +32,7 @@ use Rattle.event_ring.specs.declared.Taken.{Taken}
 use Rattle.event_ring.proofs.Laws.{add-numbered}
 use Rattle.event_ring.proofs.Standard.{given, given-number}
 
--- ---- a test says a fact: it passes exactly if the fact holds
-
-abbrev Says : Bool → Type 0 → Type 0
-Says b P = (b ≡ true → P) × (b ≡ false → Not P)
-
-says-eq : (a b : ℕ) → Says (eqb a b) (a ≡ b)
-says-eq a b = (eqb-true a b, eqb-false a b)
-
-says-le : (a b : ℕ) → Says (leb a b) (a ≤ b)
-says-le a b = (leb-true a b, λ h p. let q = leb-false a b h in omega arith)
-
-says-lt : (a b : ℕ) → Says (ltb a b) (a < b)
-says-lt a b = (ltb-true a b, λ h p. let q = ltb-false a b h in omega arith)
-
-says-bit : (b : Bool) → Says b (b ≡ true)
-says-bit b = (λ h. h, λ h p. true≢false (sym p ∙ h))
-
-says-both : {a b : Bool} {P Q : Type 0} → Says a P → Says b Q → Says (a && b) (P × Q)
-says-both {a = true} {b = true} p q = (λ h. (p .0 refl, q .0 refl), λ h. absurd (true≢false h))
-says-both {a = true} {b = false} p q = (λ h. absurd (true≢false (sym h)), λ h x. q .1 refl (x .1))
-says-both {a = false} p q = (λ h. absurd (true≢false (sym h)), λ h x. p .1 refl (x .0))
-
--- the same fact in other words
-says-as : {b : Bool} {P Q : Type 0} → Says b P → (P → Q) → (Q → P) → Says b Q
-says-as s f g = (λ h. f (s .0 h), λ h q. s .1 h (g q))
-
--- ---- a judgement's number is that of the first fault
-
--- a test whose fact must hold
-asks : {n : ℕ} {P : Type 0} {fs : Faults} (b : Bool) (k : ℕ) → Says b P → (P → FirstOf fs n) → FirstOf ((k, Not P) ∷ fs) (cond b n k)
-asks {P = P} true k s rest = later (λ (f : Not P). f (s .0 refl)) (rest (s .0 refl))
-asks false k s rest = this (s .1 refl)
-
--- one that is asked only where C holds
-asks-where : {n : ℕ} {C P : Type 0} {fs : Faults} (b : Bool) (k : ℕ) → C → Says b P → (P → FirstOf fs n) → FirstOf ((k, C × Not P) ∷ fs) (cond b n k)
-asks-where {C = C} {P = P} true k c s rest = later (λ (f : C × Not P). f .1 (s .0 refl)) (rest (s .0 refl))
-asks-where {C = C} {P = P} false k c s rest = this {fault = C × Not P} (c, s .1 refl)
-
--- and not asked where it does not
-asks-not : {k n : ℕ} {C P : Type 0} {fs : Faults} → Not C → FirstOf fs n → FirstOf ((k, C × P) ∷ fs) n
-asks-not {C = C} {P = P} c rest = later (λ (f : C × P). c (f .0)) rest
-
 -- ---- what document 01 asks, by the tests
-
-says-inside : (m : Memory) (a k : ℕ) → Says (inside m a k) (Inside m a k)
-unfolding inside
-says-inside m a k =
-    says-as (says-both (says-le (a + k) (2 ^ 64)) (says-le (a + k) (length m))) (λ p. record { below = p .0; within = p .1 }) (λ i. (i .below, i .within))
 
 says-counted : (n : ℕ) → Says (countOk n) (Counted n)
 says-counted n = says-as (says-both (says-le 1 n) (says-le n 16)) (λ p. record { some = p .0; most = p .1 }) (λ c. (c .some, c .most))
@@ -151,7 +106,7 @@ module _ (m : Memory) (s : EventRing) (report : ℕ) where
   full-in-next l (inl f) = sym (f .1)
   full-in-next l (inr f) = absurd (f .0 l)
 
-  full-in-same : Not (Last s) → Full m s report → s .place + 16 ≡ report
+  full-in-same : Not (Last s) → Full m s report → (s .place + 16) % 2 ^ 64 ≡ report
   full-in-same l (inl f) = absurd (l (f .0))
   full-in-same l (inr f) = sym (f .1)
 
@@ -178,7 +133,7 @@ module _ (m : Memory) (s : EventRing) (report : ℕ) where
           let more = eqb-false (s .remaining) 1 h in
           rw h
           (asks-not more (asks-not more
-          (fills (eqb (s .place + 16) report) 7 (says-as (says-eq (s .place + 16) report) (λ q. inr (more, sym q)) (full-in-same more)))))
+          (fills (eqb ((s .place + 16) % 2 ^ 64) report) 7 (says-as (says-eq ((s .place + 16) % 2 ^ 64) report) (λ q. inr (more, sym q)) (full-in-same more)))))
 
   pub add-refused : (e : EventTrb) → FirstOf (addFaults m s e report) (added m s e report .refusal)
   unfolding added judge
@@ -267,21 +222,12 @@ add-writes m s e report h =
     let p =
     answer-passes (λ (x : Moved). x .refusal) (addTests m s e report) (add-numbered m s e report) (refusedAt s) (movedTo (nextState m s)) (λ n. refl) refl
     (added m s e report) refl h in
-    let room = inside-le m (s .place) 16 (p .1 .1 .1 .0) in
     let size = bytes-length e (s .cycle) in
-    let fits : s .place + length (eventBytes e (s .cycle)) ≤ length m = rw size room in
+    let fits : Within m (s .place) (length (eventBytes e (s .cycle))) = rw size (inside-within m (s .place) 16 (p .1 .1 .1 .0)) in
     rw (judge-passes (addTests m s e report) (λ n. m) (write m (s .place) (eventBytes e (s .cycle))) p)
     (record {
+      start = refl;
       long = write-length m (s .place) (eventBytes e (s .cycle)) fits;
       there = ap (part (write m (s .place) (eventBytes e (s .cycle))) (s .place)) (sym size) ∙ write-there m (s .place) (eventBytes e (s .cycle)) fits;
-      elsewhere = λ i o. write-elsewhere m (s .place) (eventBytes e (s .cycle)) fits i (rw size o);
+      elsewhere = λ a f o. write-elsewhere m (s .place) (eventBytes e (s .cycle)) fits a f (rw size o);
     })
-
--- ---- no second number is that of the first fault
-
-pub first-once : (fs : Faults) (n k : ℕ) → FirstOf fs n → FirstOf fs k → n ≡ k
-first-once _ _ _ none none = refl
-first-once _ _ _ (this f) (this g) = refl
-first-once _ _ _ (this f) (later g q) = absurd (g f)
-first-once _ _ _ (later f p) (this g) = absurd (f g)
-first-once _ _ _ (later f p) (later g q) = first-once _ _ _ p q

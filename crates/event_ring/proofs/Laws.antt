@@ -1,6 +1,6 @@
 -- What the ring's limits and answers say, as the proofs of the functions use it. Assumes nothing.
 use Prim.{tt}
-use Prim.Native.Nat.{ℕ, _+_, _*_, _%_, _≤_, _<_}
+use Prim.Native.Nat.{ℕ, _+_, _-_, _*_, _%_, _^_, _≤_, _<_}
 use mathlib.Core.Path.{_≡_, refl, sym, ap, ap₂, _∙_}
 use mathlib.Core.List.{List, [], _∷_, _++_}
 use mathlib.Core.Bool.{Bool, true, false, cond, not, _&&_, Bool·beq}
@@ -10,13 +10,15 @@ use borrow.Author.Tests.{leb-true, ltb-true, eqb-true}
 use lib.Dec.{leb, ltb, eqb, lit<}
 use lib.ListN.{length}
 use Rattle.guest.specs.Judge.{Tests, judge}
+use Rattle.guest.specs.Bytes as bytes
 use Rattle.guest.specs.Memory.{Memory, le, trbAt, write}
 use Rattle.guest.specs.Answers.{writeMemory}
 use Rattle.guest.specs.Fields.{dwordsOf}
 use Rattle.guest.specs.declared.Dwords.{Dwords}
 use Rattle.guest.proofs.Tests.{both}
 use Rattle.guest.proofs.Judge.{Passes, Numbered, judge-append, judge-passes, answer-passes, answer-given, answer-stops}
-use Rattle.guest.proofs.Memory.{le-add, le-part}
+use Rattle.guest.proofs.Bytes.{le-add}
+use Rattle.guest.proofs.Memory.{le-part, offset-add}
 use Rattle.event_ring.specs.Ring.{entryAt, countOk, okState, last, entryTests, nextTests, nextState, refusedAt, movedTo, next, stepTests, addTests, addStep, added, addedMemory}
 use Rattle.guest.specs.declared.TrbAnswer.{TrbAnswer}
 use Rattle.trb.specs.Events.{eventTests, eventBytes, bytesAnswered}
@@ -138,11 +140,12 @@ module _ (m : Memory) (s : EventRing) (report : ℕ) (x : Moved) (e : x ≡ addS
 -- ---- an add, by what the event's bytes, the ring's step and the write answered
 
 module _ (m : Memory) (s : EventRing) (ev : EventTrb) (report : ℕ) (x : TrbAnswer) (e : x ≡ bytesAnswered ev (s .cycle)) where
-  pub add-unwritten : (x .refusal ≡ 0 → ⊥) → (refusedAt s (x .refusal) ≡ added m s ev report) × (m ≡ addedMemory m s ev report)
+  pub add-unwritten : (x .refusal ≡ 0 → ⊥) → (refusedAt s (x .refusal) ≡ added m s ev report) × (m .bytes ≡ addedMemory m s ev report .bytes)
   unfolding added addedMemory
   add-unwritten h = (
     sym (judge-append (eventTests ev) (stepTests m s report) (refusedAt s) (movedTo (nextState m s)) ∙ bytes-stops ev (s .cycle) x e h (refusedAt s) _),
-    sym (judge-append (eventTests ev) (stepTests m s report) (λ n. m) (write m (s .place) (eventBytes ev (s .cycle))) ∙ bytes-stops ev (s .cycle) x e h (λ n. m) _),
+    ap (λ (w : Memory). w .bytes)
+        (sym (judge-append (eventTests ev) (stepTests m s report) (λ n. m) (write m (s .place) (eventBytes ev (s .cycle))) ∙ bytes-stops ev (s .cycle) x e h (λ n. m) _)),
   )
 
   module _ (z : x .refusal ≡ 0) (y : Moved) (f : y ≡ addStep m s report) where
@@ -154,29 +157,31 @@ module _ (m : Memory) (s : EventRing) (ev : EventTrb) (report : ℕ) (x : TrbAns
     unfolding addedMemory
     add-memory = judge-then (eventTests ev) (stepTests m s report) (λ n. m) (write m (s .place) (eventBytes ev (s .cycle))) (bytes-passes ev (s .cycle) x e z)
 
-    pub add-refused : (y .refusal ≡ 0 → ⊥) → (y ≡ added m s ev report) × (m ≡ addedMemory m s ev report)
-    add-refused h = (add-ring, sym (add-memory ∙ step-stops m s report y f h (λ n. m) _))
+    pub add-refused : (y .refusal ≡ 0 → ⊥) → (y ≡ added m s ev report) × (m .bytes ≡ addedMemory m s ev report .bytes)
+    add-refused h = (add-ring, ap (λ (w : Memory). w .bytes) (sym (add-memory ∙ step-stops m s report y f h (λ n. m) _)))
 
-    pub add-accepted : y .refusal ≡ 0 → (w : Memory) → w ≡ writeMemory m (s .place) (x .trb)
-        → (y ≡ added m s ev report) × (w ≡ addedMemory m s ev report)
+    pub add-accepted : y .refusal ≡ 0 → (w : List ℕ) → w ≡ writeMemory m (s .place) (x .trb) .bytes
+        → (y ≡ added m s ev report) × (w ≡ addedMemory m s ev report .bytes)
     unfolding judge
     add-accepted h w g =
         let p = step-passes m s report y f h in
         let bytes : x .trb ≡ eventBytes ev (s .cycle) = ap (λ (r : TrbAnswer). r .trb) (bytes-given ev (s .cycle) x e z) in (
           add-ring,
           (rw (p .1 .1 .0) at g)
-              ∙ ap (write m (s .place)) bytes
-              ∙ sym (add-memory ∙ judge-passes (stepTests m s report) (λ n. m) (write m (s .place) (eventBytes ev (s .cycle))) p),
+              ∙ ap (λ (l : List ℕ). write m (s .place) l .bytes) bytes
+              ∙ ap (λ (w : Memory). w .bytes) (sym (add-memory ∙ judge-passes (stepTests m s report) (λ n. m) (write m (s .place) (eventBytes ev (s .cycle))) p)),
         )
 
 -- ---- the table
 
 -- sixteen bytes of the memory, split, are the entry there
-pub entry-split : (m : Memory) (a : ℕ) (trb : List ℕ) (d : Dwords) → trb ≡ trbAt m a → d ≡ dwordsOf trb
+pub entry-split : (m : Memory) (a : ℕ) (trb : List ℕ) (d : Dwords) → m .start ≤ a → trb ≡ trbAt m a → d ≡ dwordsOf trb
     → record { base = d .d0 + d .d1 * 0x1_0000_0000; size = d .d2 } ≡ entryAt m a
 unfolding entryAt
-entry-split m a trb d b e =
-    let low : d .d0 ≡ le m a 4 = ap (λ (x : Dwords). x .d0) e ∙ ap (λ (l : List ℕ). le l 0 4) b ∙ le-part 4 m a 16 0 (omega arith) ∙ ap (λ (x : ℕ). le m x 4) (add-zero a) in
-    let high : d .d1 ≡ le m (a + 4) 4 = ap (λ (x : Dwords). x .d1) e ∙ ap (λ (l : List ℕ). le l 4 4) b ∙ le-part 4 m a 16 4 (omega arith) in
-    let size : d .d2 ≡ le m (a + 8) 4 = ap (λ (x : Dwords). x .d2) e ∙ ap (λ (l : List ℕ). le l 8 4) b ∙ le-part 4 m a 16 8 (omega arith) in
-    ap₂ (λ (x y : ℕ). record { base = x; size = y }) (omega (arith, le-add 4 4 m a)) size
+entry-split m a trb d f b e =
+    let low : d .d0 ≡ le m a 4 =
+    ap (λ (x : Dwords). x .d0) e ∙ ap (λ (l : List ℕ). bytes.le l 0 4) b ∙ le-part m a 0 f 4 16 (omega arith) ∙ ap (λ (x : ℕ). le m x 4) (add-zero a) in
+    let high : d .d1 ≡ le m (a + 4) 4 = ap (λ (x : Dwords). x .d1) e ∙ ap (λ (l : List ℕ). bytes.le l 4 4) b ∙ le-part m a 4 f 4 16 (omega arith) in
+    let size : d .d2 ≡ le m (a + 8) 4 = ap (λ (x : Dwords). x .d2) e ∙ ap (λ (l : List ℕ). bytes.le l 8 4) b ∙ le-part m a 8 f 4 16 (omega arith) in
+    let both : le m a 8 ≡ le m a 4 + 2 ^ 32 * le m (a + 4) 4 = rw (offset-add m a 4 f) (le-add 4 4 (m .bytes) (a - m .start)) in
+    ap₂ (λ (x y : ℕ). record { base = x; size = y }) (omega (arith, both)) size

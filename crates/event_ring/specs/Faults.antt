@@ -7,35 +7,16 @@ use mathlib.Core.Bool.{true, cond}
 use mathlib.Core.List.{List, [], _∷_}
 use lib.ListN.{length}
 use lib.Dec.{ltb}
+use Rattle.guest.specs.Faults.{Not, Faults, FirstOf, Inside}
 use Rattle.guest.specs.Memory.{Memory, byte, le, trbAt}
 use Rattle.trb.specs.Trb.{cycleOf}
 use Rattle.trb.specs.declared.event.EventTrb.{EventTrb}
 use Rattle.event_ring.specs.declared.EventRing.{EventRing}
 use Rattle.event_ring.specs.declared.Take.{Take}
 
--- ---- faults in their order
-
-abbrev pub Not : Type 0 → Type 0
-Not A = A → ⊥
-
--- each fault stands with the number of its refusal
-abbrev pub Faults : Type 1
-Faults = List (ℕ × Type 0)
-
--- the number is that of the first fault that there is, 0 if there is none
-pub data FirstOf : Faults → ℕ → Type 1 where
-  none : FirstOf [] 0
-  this : {number : ℕ} {fault : Type 0} {faults : Faults} → fault → FirstOf ((number, fault) ∷ faults) number
-  later : {number n : ℕ} {fault : Type 0} {faults : Faults} → Not fault → FirstOf faults n → FirstOf ((number, fault) ∷ faults) n
-
 -- ---- what document 01 asks
 
--- 1: all bytes to be touched are inside the lent memory, and address plus length does not pass 2 ^ 64
-pub record Inside (m : Memory) (a k : ℕ) : Type 0 where
-  pub below : a + k ≤ 2 ^ 64
-  pub within : a + k ≤ length m
-
--- 5: a segment entry, base at 0 (8 bytes) and size at 8 (4 bytes): the base a multiple of 64, the size 1 to 4096, the end inside memory
+-- 5: a segment entry, base at 0 (8 bytes) and size at 8 (4 bytes): the base a multiple of 64, the size 1 to 4096, the whole segment inside memory
 pub record Allowed (m : Memory) (entry : ℕ) : Type 0 where
   pub aligned : le m entry 8 % 64 ≡ 0
   pub some : 1 ≤ le m (entry + 8) 4
@@ -74,9 +55,9 @@ Last s = s .remaining ≡ 1
 abbrev pub nextEntry : EventRing → ℕ
 nextEntry s = s .table + 16 * cond (ltb (s .index + 1) (s .entries)) (s .index + 1) 0
 
--- 7: the reported place equals that slot
+-- 7: the reported place equals that slot; places step modulo 2 ^ 64
 abbrev pub Full : Memory → EventRing → ℕ → Type 0
-Full m s report = (Last s × (report ≡ le m (nextEntry s) 8)) ⊎ (Not (Last s) × (report ≡ s .place + 16))
+Full m s report = (Last s × (report ≡ le m (nextEntry s) 8)) ⊎ (Not (Last s) × (report ≡ (s .place + 16) % 2 ^ 64))
 
 -- a slot is fresh if its cycle bit equals the reader's
 abbrev pub Fresh : Memory → EventRing → Type 0
@@ -119,6 +100,7 @@ refusedWith Take.Nothing = 0
 -- ---- what an accepted add writes: the event's sixteen bytes in the present slot, and no other byte
 
 pub record Writes (m after : Memory) (place : ℕ) (bytes : List ℕ) : Type 0 where
-  pub long : length after ≡ length m
+  pub start : after .start ≡ m .start
+  pub long : length (after .bytes) ≡ length (m .bytes)
   pub there : trbAt after place ≡ bytes
-  pub elsewhere : (i : ℕ) → (i < place) ⊎ (place + 16 ≤ i) → byte after i ≡ byte m i
+  pub elsewhere : (a : ℕ) → m .start ≤ a → (a < place) ⊎ (place + 16 ≤ a) → byte after a ≡ byte m a

@@ -1,3 +1,4 @@
 pub mod Ring
 pub mod Consumer
 pub mod Faults
+pub mod Further

@@ -1,6 +1,6 @@
 -- The event ring, xHCI 4.9.4 and 6.5, with document 01's limits and refusals: a step along the segments, and what configure, add and
 -- take answer. The refusals of each are a list of numbered tests in their order.
-use Prim.Native.Nat.{ℕ, _+_, _-_, _*_, _%_}
+use Prim.Native.Nat.{ℕ, _+_, _-_, _*_, _%_, _^_}
 use mathlib.Core.List.{List, [], _∷_, _++_}
 use mathlib.Core.Bool.{Bool, true, false, cond, not, _&&_, Bool·beq}
 use lib.ListN.{replicate}
@@ -75,6 +75,7 @@ entered s j e =
       cycle = cond (eqb j 0) (not (s .cycle)) (s .cycle);
     }
 
+-- the ring one slot on in its segment, modulo 2 ^ 64
 abbrev pub along : EventRing → EventRing
 along s =
     record {
@@ -82,7 +83,7 @@ along s =
       table = s .table;
       entries = s .entries;
       index = s .index;
-      place = s .place + 16;
+      place = (s .place + 16) % 2 ^ 64;
       remaining = s .remaining - 1;
       cycle = s .cycle;
     }

@@ -8,9 +8,12 @@ use trb::RawTrbBuffer;
 use trb::event::EventTrb;
 ghost use mathlib.Core.Path.{_≡_};
 ghost use mathlib.Core.Bool.{true};
-ghost use Prim.Native.Nat.{_+_, _^_, _≤_, _<_};
-ghost use Rattle.guest.specs.Memory.{inside};
+ghost use Prim.Native.Nat.{_≤_, _<_};
+ghost use Rattle.guest.specs.Memory.{window, inside};
 ghost use Rattle.event_ring.specs.Ring.{empty, entryAt, goodEntry, countOk, okState, nextIndex, entered, along, refusedAt, enterNext, next, configured, addStep, added, addedMemory, readerAt, readerConfigured, takeRefused, take};
+
+// The last address.
+const LAST: u64 = 0xffff_ffff_ffff_ffff;
 
 // An entry of the segment table.
 pub struct Entry {
@@ -58,11 +61,11 @@ pub struct Taken {
     pub reader: EventReader,
 }
 
-fn read_entry(mem: &[u8], address: u64) -> Entry
-    requires { ⌜ inside (now mem) address 16 ≡ true ⌝ }
-    ensures { λ r. ⌜ r ≡ entryAt (now (mem .entry)) address ⌝ }
+fn read_entry(start: u64, mem: &[u8], address: u64) -> Entry
+    requires { ⌜ inside (window start (now mem)) address 16 ≡ true ⌝ }
+    ensures { λ r. ⌜ r ≡ entryAt (window start (now (mem .entry))) address ⌝ }
 {
-    let read = guest::read_trb(mem, address);
+    let read = guest::read_trb(start, mem, address);
     let trb = read.trb;
     let d = guest::split(trb);
     Entry {
@@ -71,13 +74,13 @@ fn read_entry(mem: &[u8], address: u64) -> Entry
     }
 }
 
-fn good_entry(mem: &[u8], e: Entry) -> bool
-    ensures { λ r. ⌜ r ≡ goodEntry (now (mem .entry)) e ⌝ }
+fn good_entry(start: u64, mem: &[u8], e: Entry) -> bool
+    ensures { λ r. ⌜ r ≡ goodEntry (window start (now (mem .entry))) e ⌝ }
 {
     (e.base % EventRing::SEGMENT_ALIGNMENT == 0)
         & (1 <= e.size)
         & (e.size <= EventRing::MOST_SLOTS)
-        & guest::inside(mem, e.base, EventRing::SLOT_SIZE * (e.size as u64))
+        & guest::inside(start, mem, e.base, EventRing::SLOT_SIZE * (e.size as u64))
 }
 
 fn count_ok(entries: u16) -> bool
@@ -163,9 +166,9 @@ impl EventRing {
         }
     }
 
-    // The ring one slot on in its segment.
+    // The ring one slot on in its segment, modulo 2^64.
     fn step(self) -> Self
-        requires { ⌜ (self .place + 16 < 2 ^ 64) × (1 ≤ self .remaining) ⌝ }
+        requires { ⌜ 1 ≤ self .remaining ⌝ }
         ensures { λ r. ⌜ r ≡ along self ⌝ }
     {
         EventRing {
@@ -173,24 +176,28 @@ impl EventRing {
             table: self.table,
             entries: self.entries,
             index: self.index,
-            place: self.place + EventRing::SLOT_SIZE,
+            place: std::num::wrapping_add_u64(self.place, EventRing::SLOT_SIZE),
             remaining: self.remaining - 1,
             cycle: self.cycle,
         }
     }
 
     // The ring in the next entry, or what refuses that entry.
-    fn enter_next(self, mem: &[u8]) -> Moved
+    fn enter_next(self, start: u64, mem: &[u8]) -> Moved
         requires { ⌜ okState self ≡ true ⌝ }
-        ensures { λ r. ⌜ r ≡ enterNext (now (mem .entry)) self ⌝ }
+        ensures { λ r. ⌜ r ≡ enterNext (window start (now (mem .entry))) self ⌝ }
     {
         let index = self.next_index();
-        let offset = 16 * (index as u64);
-        if !guest::inside(mem, self.table, offset + 16) {
+        let past = 16 * (index as u64);
+        if LAST - self.table < past {
             return self.refused(refusal::OUTSIDE);
         }
-        let e = read_entry(mem, self.table + offset);
-        if !good_entry(mem, e) {
+        let entry = self.table + past;
+        if !guest::inside(start, mem, entry, 16) {
+            return self.refused(refusal::OUTSIDE);
+        }
+        let e = read_entry(start, mem, entry);
+        if !good_entry(start, mem, e) {
             return self.refused(refusal::SEGMENT);
         }
         Moved {
@@ -200,12 +207,12 @@ impl EventRing {
     }
 
     // The ring on the slot after the present one, or what refuses that.
-    fn next(self, mem: &[u8]) -> Moved
-        requires { ⌜ (okState self ≡ true) × (inside (now mem) (self .place) 16 ≡ true) ⌝ }
-        ensures { λ r. ⌜ r ≡ next (now (mem .entry)) self ⌝ }
+    fn next(self, start: u64, mem: &[u8]) -> Moved
+        requires { ⌜ okState self ≡ true ⌝ }
+        ensures { λ r. ⌜ r ≡ next (window start (now (mem .entry))) self ⌝ }
     {
         if self.remaining == 1 {
-            return self.enter_next(mem);
+            return self.enter_next(start, mem);
         }
         Moved {
             refusal: 0,
@@ -213,8 +220,8 @@ impl EventRing {
         }
     }
 
-    pub fn configure(self, mem: &[u8], table: u64, entries: u16) -> Moved
-        ensures { λ r. ⌜ r ≡ configured (now (mem .entry)) self table entries ⌝ }
+    pub fn configure(self, start: u64, mem: &[u8], table: u64, entries: u16) -> Moved
+        ensures { λ r. ⌜ r ≡ configured (window start (now (mem .entry))) self table entries ⌝ }
     {
         if table % EventRing::SEGMENT_ALIGNMENT != 0 {
             return self.refused(refusal::TABLE_BASE);
@@ -222,11 +229,11 @@ impl EventRing {
         if !count_ok(entries) {
             return self.refused(refusal::TABLE_ENTRIES);
         }
-        if !guest::inside(mem, table, 16 * (entries as u64)) {
+        if !guest::inside(start, mem, table, 16 * (entries as u64)) {
             return self.refused(refusal::OUTSIDE);
         }
-        let e = read_entry(mem, table);
-        if !good_entry(mem, e) {
+        let e = read_entry(start, mem, table);
+        if !good_entry(start, mem, e) {
             return self.refused(refusal::SEGMENT);
         }
         Moved {
@@ -244,8 +251,8 @@ impl EventRing {
     }
 
     // Where an add moves the ring to, or what refuses it, once the event has its bytes.
-    fn add_step(self, mem: &[u8], report: u64) -> Moved
-        ensures { λ r. ⌜ r ≡ addStep (now (mem .entry)) self report ⌝ }
+    fn add_step(self, start: u64, mem: &[u8], report: u64) -> Moved
+        ensures { λ r. ⌜ r ≡ addStep (window start (now (mem .entry))) self report ⌝ }
     {
         if !self.ok() {
             return self.refused(refusal::STATE);
@@ -253,10 +260,10 @@ impl EventRing {
         if report % EventRing::SLOT_SIZE != 0 {
             return self.refused(refusal::REPORT);
         }
-        if !guest::inside(mem, self.place, 16) {
+        if !guest::inside(start, mem, self.place, 16) {
             return self.refused(refusal::OUTSIDE);
         }
-        let next = self.next(mem);
+        let next = self.next(start, mem);
         if next.refusal != 0 {
             return next;
         }
@@ -267,19 +274,19 @@ impl EventRing {
     }
 
     // Adds an event, given the place up to which the reader has reported that it took events.
-    pub fn add(self, mem: &mut [u8], event: EventTrb, report: u64) -> Moved
-        ensures { λ r. ⌜ (r ≡ added (now (mem .entry)) self event report) × (now (mem .exit) ≡ addedMemory (now (mem .entry)) self event report) ⌝ }
+    pub fn add(self, start: u64, mem: &mut [u8], event: EventTrb, report: u64) -> Moved
+        ensures { λ r. ⌜ (r ≡ added (window start (now (mem .entry))) self event report) × (now (mem .exit) ≡ addedMemory (window start (now (mem .entry))) self event report .bytes) ⌝ }
     {
         let written = event.to_bytes(self.cycle);
         if written.refusal != 0 {
             return self.refused(written.refusal);
         }
-        let step = self.add_step(mem, report);
+        let step = self.add_step(start, mem, report);
         if step.refusal != 0 {
             return step;
         }
         let trb = written.trb;
-        guest::write_trb(mem, self.place, trb);
+        guest::write_trb(start, mem, self.place, trb);
         step
     }
 }
@@ -299,11 +306,11 @@ impl EventReader {
         EventReader::new()
     }
 
-    pub fn configure(self, mem: &[u8], table: u64, entries: u16) -> ReaderMoved
-        ensures { λ r. ⌜ r ≡ readerConfigured (now (mem .entry)) self table entries ⌝ }
+    pub fn configure(self, start: u64, mem: &[u8], table: u64, entries: u16) -> ReaderMoved
+        ensures { λ r. ⌜ r ≡ readerConfigured (window start (now (mem .entry))) self table entries ⌝ }
     {
         let state = self.state;
-        let moved = state.configure(mem, table, entries);
+        let moved = state.configure(start, mem, table, entries);
         let ring = moved.ring;
         ReaderMoved {
             refusal: moved.refusal,
@@ -322,14 +329,14 @@ impl EventReader {
     }
 
     // Takes the event that stands in the reader's slot, if the slot is fresh.
-    pub fn take(self, mem: &[u8]) -> Taken
-        ensures { λ r. ⌜ r ≡ take (now (mem .entry)) self ⌝ }
+    pub fn take(self, start: u64, mem: &[u8]) -> Taken
+        ensures { λ r. ⌜ r ≡ take (window start (now (mem .entry))) self ⌝ }
     {
         let state = self.state;
         if !state.ok() {
             return self.refused(refusal::STATE);
         }
-        let read = guest::read_trb(mem, state.place);
+        let read = guest::read_trb(start, mem, state.place);
         if read.refusal != 0 {
             return self.refused(refusal::OUTSIDE);
         }
@@ -341,7 +348,7 @@ impl EventReader {
                 reader: self,
             };
         }
-        let moved = state.next(mem);
+        let moved = state.next(start, mem);
         if moved.refusal != 0 {
             return self.refused(moved.refusal);
         }

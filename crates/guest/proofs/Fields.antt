@@ -9,10 +9,10 @@ use lib.Arith.{mod-mul}
 use lib.ListN.{length, getD, take, drop, length-drop, take-append-drop}
 use lib.Pow.{pow-add, shr-shr, field as pow-field}
 use lib.Seq.{take-all, drop-drop, drop-cons}
-use Rattle.guest.specs.Memory.{le}
+use Rattle.guest.specs.Bytes.{le}
 use Rattle.guest.specs.Fields.{bits, dword, dwordsOf, bytesOf, bytesOfDwords, lowOf, highOf, wholeOf}
 use Rattle.guest.specs.declared.Dwords.{Dwords}
-use Rattle.guest.proofs.Memory.{Bytes, le-add, le-lt}
+use Rattle.guest.proofs.Bytes.{Bytes, le-add, le-lt}
 
 -- ---- a number and its bytes
 

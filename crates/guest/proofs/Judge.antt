@@ -82,3 +82,21 @@ module _ {A : Type 0} (number : A → ℕ) (ts : Tests) (k : Numbered ts) (r : �
   -- any other says how every judgement by these tests ends
   pub answer-stops : (number x ≡ 0 → ⊥) → {B : Type 0} (s : ℕ → B) (b : B) → judge ts s b ≡ s (number x)
   answer-stops h s b = judge-number ts s b k ∙ rw (ne-eqb (refusalOf ts) 0 (λ q. h (number-is ∙ q))) (ap s (sym number-is))
+
+-- ---- two lists of tests that decide alike: the same numbers, and each test the same where those before it pass
+
+abbrev pub Alike : Tests → Tests → Type 0
+Alike [] [] = Unit {0}
+Alike [] (u ∷ us) = ⊥
+Alike (t ∷ ts) [] = ⊥
+Alike ((n, b) ∷ ts) ((k, c) ∷ us) = (k ≡ n) × (c ≡ b) × (b ≡ true → Alike ts us)
+
+pub judge-alike : {A B : Type 0} (f : A → B) (ts us : Tests) (r : ℕ → A) (s : ℕ → B) (a : A) (b : B) → Alike ts us
+    → ((n : ℕ) → s n ≡ f (r n)) → (Passes ts → b ≡ f a) → judge us s b ≡ f (judge ts r a)
+unfolding judge
+judge-alike f [] [] r s a b same refuses gives = gives tt
+judge-alike f [] (u ∷ us) r s a b same refuses gives = absurd same
+judge-alike f (t ∷ ts) [] r s a b same refuses gives = absurd same
+judge-alike f ((n, true) ∷ ts) ((k, c) ∷ us) r s a b same refuses gives =
+    rw (same .1) (judge-alike f ts us r s a b (same .2 refl) refuses (λ p. gives (refl, p)))
+judge-alike f ((n, false) ∷ ts) ((k, c) ∷ us) r s a b same refuses gives = rw (same .1) (ap s (same .0) ∙ refuses n)

@@ -1,5 +1,9 @@
 pub mod Tests
 pub mod Judge
+pub mod Bytes
 pub mod Memory
 pub mod Fields
 pub mod Answers
+pub mod Faults
+pub mod FromZero
+pub mod Further

@@ -1,131 +1,105 @@
--- Laws of guest memory, each once, over the width. Assumes nothing.
-use mathlib.Core.Path.{_≡_, refl, sym, ap, ap₂, _∙_}
-use mathlib.Core.List.{List, [], _∷_, _++_, append-nil, append-assoc}
+-- Laws of guest memory: what is inside a window, and what is read there and after a write. Assumes nothing.
+use mathlib.Core.Path.{_≡_, refl, sym, ap, _∙_}
+use mathlib.Core.List.{List}
 use mathlib.Core.Logic.{_⊎_, inl, inr}
 use mathlib.Core.Bool.{Bool, true, false, _&&_}
-use Prim.Native.Nat.{ℕ, zero, suc, _+_, _-_, _*_, _^_, _≤_, _<_}
-use native.Mathlib.Nat.{add-sub-cancel-left, suc-add, add-assoc, add-zero, zero-add, pow-zero, pow-succ', mul-assoc, mul-add, one-mul}
-use native.Mathlib.Numerals.{add-one, one-add}
+use Prim.Native.Nat.{ℕ, suc, _+_, _-_, _*_, _^_, _≤_, _<_}
 use native.Mathlib.Omega.{arith}
-use borrow.Author.Tests.{leb-true, le-leb, lt-leb}
-use lib.Dec.{leb}
-use lib.ListN.{length, getD, take, drop, set, length-drop}
-use lib.Seq.{length-take-le, drop-drop, take-length, drop-length, getD-take, getD-drop, sets, sets-eq, length-sets, drop-at, take-at, getD-set-other}
-use Rattle.guest.specs.Memory.{Memory, byte, inside, le, part, write}
+use borrow.Author.Tests.{leb-true, leb-false, ltb-true, ltb-false, le-leb}
+use lib.Dec.{leb, ltb}
+use lib.ListN.{length, getD}
+use Rattle.guest.specs.Bytes as bytes
+use Rattle.guest.specs.Memory.{Memory, offset, byte, inside, le, part, write}
 use Rattle.guest.proofs.Tests.{both}
+use Rattle.guest.proofs.Bytes as bytes-laws
 
--- ---- inside
+-- ---- inside: the three facts, and each of them alone refuses
 
-pub inside-le : (m : Memory) (a k : ℕ) → inside m a k ≡ true → a + k ≤ length m
-unfolding inside
-inside-le m a k h = leb-true (a + k) (length m) (both (leb (a + k) (2 ^ 64)) _ h .1)
+module _ (m : Memory) (a k : ℕ) where
+  pub record Within : Type 0 where
+    pub from : m .start ≤ a
+    pub below : a + k ≤ 2 ^ 64
+    pub fits : offset m a + k ≤ length (m .bytes)
 
-pub inside-below : (m : Memory) (a k : ℕ) → inside m a k ≡ true → a + k ≤ 2 ^ 64
-unfolding inside
-inside-below m a k h = leb-true (a + k) (2 ^ 64) (both (leb (a + k) (2 ^ 64)) _ h .0)
+  pub inside-within : inside m a k ≡ true → Within
+  unfolding inside
+  inside-within h =
+      let p = both (leb (m .start) a && leb (a + k) (2 ^ 64)) _ h in
+      let q = both (leb (m .start) a) _ (p .0) in
+      record {
+        from = leb-true (m .start) a (q .0);
+        below = leb-true (a + k) (2 ^ 64) (q .1);
+        fits = leb-true (offset m a + k) (length (m .bytes)) (p .1);
+      }
 
-pub inside-yes : (m : Memory) (a k : ℕ) → a + k ≤ length m → length m ≤ 2 ^ 64 → inside m a k ≡ true
-unfolding inside
-inside-yes m a k h n = rw (le-leb (a + k) (2 ^ 64) (omega arith), le-leb (a + k) (length m) h)
+  pub within-inside : Within → inside m a k ≡ true
+  unfolding inside
+  within-inside w = rw (le-leb (m .start) a (w .from), le-leb (a + k) (2 ^ 64) (w .below), le-leb (offset m a + k) (length (m .bytes)) (w .fits))
 
-pub inside-no : (m : Memory) (a k : ℕ) → length m < a + k → inside m a k ≡ false
-unfolding inside
-inside-no m a k h = rw (lt-leb (a + k) (length m) h) (never (leb (a + k) (2 ^ 64)))
-  where
-    never : (b : Bool) → b && false ≡ false
-    never true = refl
-    never false = refl
+  pub inside-no : (Within → ⊥) → inside m a k ≡ false
+  inside-no n = go (inside m a k) refl
+    where
+      go : (b : Bool) → inside m a k ≡ b → inside m a k ≡ false
+      go true e = absurd (n (inside-within e))
+      go false e = e
 
--- so far on, and so many bytes there
-pub inside-add : (m : Memory) (a k l : ℕ) → inside m (a + k) l ≡ inside m a (k + l)
-unfolding inside
-inside-add m a k l = rw (add-assoc a k l)
+  -- a test that decides it; none of no bytes, and the last of some, where start and 2 ^ 64 allow them
+  inside-by : (b : Bool) → (b ≡ true → Within) → (b ≡ false → Within → ⊥) → b ≡ inside m a k
+  inside-by true f g = sym (within-inside (f refl))
+  inside-by false f g = sym (inside-no (g refl))
+
+  pub inside-none : k ≡ 0 → m .start ≤ a → a < 2 ^ 64 → leb (offset m a) (length (m .bytes)) ≡ inside m a k
+  inside-none z f u =
+      inside-by (leb (offset m a) (length (m .bytes)))
+      (λ t. record { from = f; below = omega (arith, z, u); fits = omega (arith, z, leb-true (offset m a) (length (m .bytes)) t) })
+      (λ t w. omega (arith, leb-false (offset m a) (length (m .bytes)) t, w .fits))
+
+  pub inside-last : 1 ≤ k → m .start ≤ a → a + k ≤ 2 ^ 64 → ltb (offset m a + (k - 1)) (length (m .bytes)) ≡ inside m a k
+  inside-last o f u =
+      inside-by (ltb (offset m a + (k - 1)) (length (m .bytes)))
+      (λ t. record { from = f; below = u; fits = omega (arith, o, ltb-true (offset m a + (k - 1)) (length (m .bytes)) t) })
+      (λ t w. omega (arith, o, ltb-false (offset m a + (k - 1)) (length (m .bytes)) t, w .fits))
+
+-- a part of what is inside
+pub inside-part : (m : Memory) (a k i l : ℕ) → inside m a k ≡ true → i + l ≤ k → inside m (a + i) l ≡ true
+inside-part m a k i l h n =
+    let w = inside-within m a k h in
+    within-inside m (a + i) l
+    (record { from = omega (arith, w .from); below = omega (arith, w .below); fits = omega (arith, w .from, w .fits) })
 
 -- and so are fewer bytes
 pub inside-less : (m : Memory) (a k l : ℕ) → inside m a k ≡ true → l ≤ k → inside m a l ≡ true
-unfolding inside
 inside-less m a k l h n =
-    let p = both (leb (a + k) (2 ^ 64)) _ h in
-    rw (le-leb (a + l) (2 ^ 64) (omega (arith, leb-true (a + k) (2 ^ 64) (p .0))), le-leb (a + l) (length m) (omega (arith, leb-true (a + k) (length m) (p .1))))
+    let w = inside-within m a k h in
+    within-inside m a l (record { from = w .from; below = omega (arith, w .below); fits = omega (arith, w .fits) })
 
--- ---- numbers
+-- ---- what is read of a part
 
--- each element is a byte
-abbrev pub Bytes : List ℕ → Type 0
-Bytes m = (i : ℕ) → getD m i 0 < 256
+-- a number's first byte, and the number of the others
+pub le-next : (m : Memory) (a k : ℕ) → m .start ≤ a → le m a (suc k) ≡ byte m a + 256 * le m (a + 1) k
+unfolding bytes.le
+le-next m a k f = ap (λ (x : ℕ). byte m a + 256 * bytes.le (m .bytes) x k) (omega arith)
 
--- a number of j + k bytes is its j low bytes, and its k high bytes times 256 ^ j
-pub le-add : (j k : ℕ) (m : Memory) (a : ℕ) → le m a (j + k) ≡ le m a j + 256 ^ j * le m (a + j) k
-unfolding le
-le-add zero k m a = simp (zero-add, add-zero, pow-zero, one-mul)
-le-add (suc j) k m a =
-    rw (suc-add, le, le-add j k m (a + 1), add-assoc a 1 j, one-add, pow-succ', mul-assoc, mul-add) (omega arith)
+module _ (m : Memory) (a i : ℕ) (from : m .start ≤ a) where
+  -- so far on from a
+  pub offset-add : offset m (a + i) ≡ offset m a + i
+  offset-add = omega arith
 
--- a number of k bytes is below 256 ^ k
-pub le-lt : (k : ℕ) (m : Memory) (a : ℕ) → Bytes m → le m a k < 256 ^ k
-unfolding le
-le-lt zero m a b = rw pow-zero (omega arith)
-le-lt (suc k) m a b = rw pow-succ' (omega (arith, b a, le-lt k m (a + 1) b))
+  pub part-byte : (n : ℕ) → i < n → getD (part m a n) i 0 ≡ byte m (a + i)
+  part-byte n h = bytes-laws.part-byte (m .bytes) (offset m a) n i h ∙ ap (λ (x : ℕ). getD (m .bytes) x 0) (sym offset-add)
 
--- ---- parts
+  pub le-part : (k n : ℕ) → i + k ≤ n → bytes.le (part m a n) i k ≡ le m (a + i) k
+  le-part k n h = bytes-laws.le-part k (m .bytes) (offset m a) n i h ∙ ap (λ (x : ℕ). bytes.le (m .bytes) x k) (sym offset-add)
 
--- a copy of as many elements as there is room for
-copied : (s d : List ℕ) → length d ≡ length s → take (length s) s ++ drop (length s) d ≡ s
-copied s d e = rw (take-length, ← e, drop-length, append-nil)
+-- ---- a write where it fits keeps the memory's length and every other byte, and is read back
 
--- what a copy of the part of m from a to a + k, and a copy into that part, leave
-module _ (k a : ℕ) (m : Memory) (fits : a + k ≤ length m) where
-  abbrev span : List ℕ
-  span = take (a + k - a) (drop a m)
-
-  span-length : length span ≡ k
-  span-length = rw (add-sub-cancel-left a k, length-take-le k (drop a m) (rw length-drop (omega arith)))
-
-  pub loaded : (d : List ℕ) → length d ≡ k → take (length span) span ++ drop (length span) d ≡ part m a k
-  unfolding part
-  loaded d e = copied span d (e ∙ sym span-length) ∙ ap (λ (n : ℕ). take n (drop a m)) (add-sub-cancel-left a k)
-
-  pub stored : (v : List ℕ) → length v ≡ k
-      → take a m ++ ((take (length v) v ++ drop (length v) span) ++ drop (a + k - a) (drop a m)) ≡ write m a v
-  unfolding write
-  stored v e = rw (copied v span (span-length ∙ sym e), add-sub-cancel-left a k, drop-drop, e)
-
-  pub part-length : length (part m a k) ≡ k
-  unfolding part
-  part-length = length-take-le k (drop a m) (rw length-drop (omega arith))
-
--- ---- what is read of a part, and after a write
-
-pub part-byte : (m : Memory) (a n i : ℕ) → i < n → byte (part m a n) i ≡ byte m (a + i)
-unfolding part
-part-byte m a n i h = rw (getD-take n (drop a m) i 0, getD-drop)
-
-pub le-part : (k : ℕ) (m : Memory) (a n i : ℕ) → i + k ≤ n → le (part m a n) i k ≡ le m (a + i) k
-unfolding le
-le-part zero m a n i h = refl
-le-part (suc k) m a n i h =
-    ap₂ (λ (x y : ℕ). x + 256 * y) (part-byte m a n i (omega arith))
-    (le-part k m a n (i + 1) (omega arith) ∙ ap (λ (x : ℕ). le m x k) (sym (add-assoc a i 1)))
-
--- a write where it fits keeps the memory's length and every other byte, and is read back
-module _ (m : Memory) (a : ℕ) (v : List ℕ) (fits : a + length v ≤ length m) where
-  as-sets : write m a v ≡ sets m a v
-  unfolding write
-  as-sets = sym (sets-eq v m a fits ∙ append-assoc (take a m) v (drop (a + length v) m))
-
-  pub write-length : length (write m a v) ≡ length m
-  write-length = ap length as-sets ∙ length-sets m a v
+module _ (m : Memory) (a : ℕ) (v : List ℕ) (w : Within m a (length v)) where
+  pub write-length : length (write m a v .bytes) ≡ length (m .bytes)
+  write-length = bytes-laws.write-length (m .bytes) (offset m a) v (w .fits)
 
   pub write-there : part (write m a v) a (length v) ≡ v
-  unfolding write part
-  write-there =
-      ap (take (length v)) (drop-at (take a m) (v ++ drop (a + length v) m) a (length-take-le a m (omega arith)))
-      ∙ take-at v (drop (a + length v) m) (length v) refl
+  write-there = bytes-laws.write-there (m .bytes) (offset m a) v (w .fits)
 
-  pub write-elsewhere : (i : ℕ) → (i < a) ⊎ (a + length v ≤ i) → byte (write m a v) i ≡ byte m i
-  write-elsewhere i h = ap (λ (l : Memory). byte l i) as-sets ∙ other v m a i h
-    where
-      other : (v : List ℕ) (m : Memory) (a i : ℕ) → (i < a) ⊎ (a + length v ≤ i) → byte (sets m a v) i ≡ byte m i
-      other [] m a i h = refl
-      other (b ∷ v) m a i (inl h) = other v (set m a b) (suc a) i (inl (omega arith)) ∙ getD-set-other m a i b 0 (omega arith)
-      other (b ∷ v) m a i (inr h) = other v (set m a b) (suc a) i (inr (omega arith)) ∙ getD-set-other m a i b 0 (omega arith)
+  pub write-elsewhere : (i : ℕ) → m .start ≤ i → (i < a) ⊎ (a + length v ≤ i) → byte (write m a v) i ≡ byte m i
+  write-elsewhere i f (inl h) = bytes-laws.write-elsewhere (m .bytes) (offset m a) v (w .fits) (offset m i) (inl (omega (arith, w .from)))
+  write-elsewhere i f (inr h) = bytes-laws.write-elsewhere (m .bytes) (offset m a) v (w .fits) (offset m i) (inr (omega (arith, w .from)))

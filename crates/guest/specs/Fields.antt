@@ -1,7 +1,7 @@
 -- A TRB as xHCI draws it (section 6.4): four dwords, little-endian, in which a field is some bits of one dword.
 use Prim.Native.Nat.{ℕ, zero, suc, _*_, _/_, _%_, _^_}
 use mathlib.Core.List.{List, [], _∷_, _++_}
-use Rattle.guest.specs.Memory.{le}
+use Rattle.guest.specs.Bytes.{le}
 use Rattle.guest.specs.declared.Dwords.{Dwords}
 
 -- the w bits of n from bit lo up

@@ -8,7 +8,7 @@ pub const TABLE_BASE: u8 = 2;
 pub const TABLE_ENTRIES: u8 = 3;
 // The ring was never configured, or was reset, or its state breaks its own limits.
 pub const STATE: u8 = 4;
-// A segment entry: base not a multiple of 64, size 0 or too large, or end beyond memory.
+// A segment entry: base not a multiple of 64, size 0 or too large, or not all of the segment inside memory.
 pub const SEGMENT: u8 = 5;
 // The reported place is not a multiple of 16.
 pub const REPORT: u8 = 6;

@@ -1,2 +1,3 @@
 pub mod Chase
 pub mod Hops
+pub mod Further

@@ -9,6 +9,7 @@ use trb::link::LinkOrOther;
 use trb::link::LinkTrb;
 ghost use mathlib.Core.Path.{_≡_};
 ghost use Prim.Native.Nat.{_-_, _<_};
+ghost use Rattle.guest.specs.Memory.{window};
 ghost use Rattle.linked_ring.specs.Chase.{ringAt, advanced, followed, unnoted, noted, freshOf, ended, chaseFrom, chase};
 
 pub struct LinkedRing {
@@ -119,14 +120,14 @@ impl LinkedRing {
     }
 
     // The chase from here on, of a ring that stood at `entry` when it began and has come here over so many links.
-    pub fn go_on(self, mem: &[u8], entry: LinkedRing, noted: Notes) -> Chase
-        ensures { λ r. ⌜ r ≡ chaseFrom (now (mem .entry)) entry (256 - noted .links) self noted ⌝ }
+    pub fn go_on(self, start: u64, mem: &[u8], entry: LinkedRing, noted: Notes) -> Chase
+        ensures { λ r. ⌜ r ≡ chaseFrom (window start (now (mem .entry))) entry (256 - noted .links) self noted ⌝ }
     {
         let mut ring = self;
         let mut notes = noted;
         loop {
             let address = ring.place;
-            let read = guest::read_trb(mem, address);
+            let read = guest::read_trb(start, mem, address);
             if read.refusal != 0 {
                 return end(Answer::Refused(refusal::OUTSIDE), entry, Notes::none());
             }
@@ -152,10 +153,10 @@ impl LinkedRing {
     }
 
     // The next TRB that is fresh and no Link, with the Links on the way followed.
-    pub fn next_trb(self, mem: &[u8]) -> Chase
-        ensures { λ r. ⌜ r ≡ chase (now (mem .entry)) self ⌝ }
+    pub fn next_trb(self, start: u64, mem: &[u8]) -> Chase
+        ensures { λ r. ⌜ r ≡ chase (window start (now (mem .entry))) self ⌝ }
     {
-        self.go_on(mem, self, Notes::none())
+        self.go_on(start, mem, self, Notes::none())
     }
 }
 

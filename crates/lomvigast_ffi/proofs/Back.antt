@@ -12,7 +12,7 @@ use lib.ListN.{length}
 use Rattle.guest.specs.Judge.{judge}
 use Rattle.guest.specs.Memory.{Memory, inside, trbAt}
 use Rattle.guest.specs.Fields.{bits, wholeOf}
-use Rattle.guest.proofs.Memory.{Bytes}
+use Rattle.guest.proofs.Bytes.{Bytes}
 use Rattle.guest.proofs.Fields.{whole-halves}
 use Rattle.trb.specs.Trb.{bit, when, _or_, oneOf}
 use Rattle.event_ring.specs.Ring.{okState, goodEntry, last, nextIndex, nextEntry, nextTests, nextState, freshOf, take, takeRefused, nothingAt, takenAt}

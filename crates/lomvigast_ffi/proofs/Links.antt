@@ -8,9 +8,10 @@ use native.Mathlib.Omega.{arith}
 use borrow.Author.Tests.{eq-eqb, ne-eqb}
 use lib.Dec.{eqb}
 use lib.ListN.{replicate}
-use Rattle.guest.specs.Memory.{Memory, inside, le, trbAt}
+use Rattle.guest.specs.Bytes.{le}
+use Rattle.guest.specs.Memory.{Memory, inside, trbAt}
 use Rattle.guest.specs.Fields.{dword, lowOf, highOf}
-use Rattle.guest.proofs.Memory.{Bytes, le-part, le-lt}
+use Rattle.guest.proofs.Bytes.{Bytes}
 use Rattle.guest.proofs.Fields.{halves}
 use Rattle.trb.specs.Trb.{bit, alignedOf}
 use Rattle.trb.specs.Links.{linkOf, linkTrb}
@@ -21,9 +22,13 @@ use Rattle.linked_ring.specs.declared.LinkedRing.{LinkedRing}
 use Rattle.linked_ring.specs.declared.Notes.{Notes}
 use Rattle.linked_ring.specs.declared.Answer.{Answer}
 use Rattle.linked_ring.specs.declared.Chase.{Chase}
-use Rattle.lomvigast_ffi.specs.Linked.{ringWords, ringAfter, counted, flatChase}
+use Rattle.lomvigast_ffi.specs.Linked.{ringWords, ringAfter, flatChase}
 use Rattle.lomvigast_ffi.specs.declared.linked.CChase.{CChase}
-use Rattle.lomvigast_ffi.proofs.Slots.{fresh-yes, fresh-no}
+use Rattle.lomvigast_ffi.proofs.Slots.{four-below, fresh-yes, fresh-no}
+
+-- so many links, and nothing else to note
+abbrev counted : ℕ → Notes
+counted n = record { links = n; cleared = false; completion = false }
 
 -- the chase at a place with a cycle as a number, k links on
 abbrev pub from : Memory → LinkedRing → ℕ → ℕ → ℕ → Chase
@@ -72,7 +77,7 @@ module _ (m : Memory) (entry : LinkedRing) (p c k : ℕ) (i : inside m p 16 ≡ 
   pub stale : (d3 % 2 ≡ c → ⊥) → (ws : List ℕ)
       → Flat x ws (record { kind = 0; address = 0; low = 0; high = 0; notes = k }) (p ∷ c ∷ [])
   stale n ws =
-      let e : x ≡ ended Answer.NothingNew (ringAt p (eqb c 1)) (counted k) = rw (i, fresh-no m p i c l n) in
+      let e : x ≡ ended Answer.NothingNew (ringAt p (eqb c 1)) (counted k) = rw (i, fresh-no trb c l n) in
       rw (e, zeros .0, zeros .1, bit-one c l) (ap (λ (n : ℕ). record { kind = 0; address = 0; low = 0; high = 0; notes = n }) (omega arith), refl)
 
   -- fresh, and no Link
@@ -80,16 +85,13 @@ module _ (m : Memory) (entry : LinkedRing) (p c k : ℕ) (i : inside m p 16 ≡ 
       → Flat x ws (record { kind = 1; address = p; low = lowOf trb; high = highOf trb; notes = k }) (p ∷ c ∷ [])
   unfolding linkOf
   other y n ws =
-      let e : x ≡ found trb (ringAt p (eqb c 1)) (counted k) = rw (i, fresh-yes m p i c y, ne-eqb _ 6 n) in
+      let e : x ≡ found trb (ringAt p (eqb c 1)) (counted k) = rw (i, fresh-yes trb c y, ne-eqb _ 6 n) in
       rw (e, bit-one c l) (ap (λ (n : ℕ). record { kind = 1; address = p; low = lowOf trb; high = highOf trb; notes = n }) (omega arith), refl)
 
   -- a Link that leaves nothing to note is followed
-  module _ (b : Bytes m) (z : lowOf trb % 16 ≡ 0) where
-    below : (j : ℕ) → j + 4 ≤ 16 → le trb j 4 < 2 ^ 32
-    below j h = rw (le-part 4 m p 16 j h) (le-lt 4 m (p + j) b)
-
+  module _ (b : Bytes (m .bytes)) (z : lowOf trb % 16 ≡ 0) where
     aligned : alignedOf trb ≡ lowOf trb
-    aligned = omega (arith, z, halves trb .0, below 0 (omega arith), below 4 (omega arith))
+    aligned = omega (arith, z, halves trb .0, four-below m p b 0 (omega arith), four-below m p b 4 (omega arith))
 
     clear : eqb (dword trb 0 / 1 % 0x10) 0 ≡ true
     clear = eq-eqb (dword trb 0 / 1 % 0x10) 0 (omega (arith, z, halves trb .0))
@@ -101,7 +103,7 @@ module _ (m : Memory) (entry : LinkedRing) (p c k : ℕ) (i : inside m p 16 ≡ 
         let link = linkTrb trb in
         let here = ringAt p (eqb c 1) in
         let less : 256 - k ≡ suc (256 - (k + 1)) = omega arith in
-        let at-link : x ≡ onward m entry (256 - k) here (counted k) link = rw (i, fresh-yes m p i c y, eq-eqb _ 6 t) in
+        let at-link : x ≡ onward m entry (256 - k) here (counted k) link = rw (i, fresh-yes trb c y, eq-eqb _ 6 t) in
         let ring : followed here link ≡ ringAt (lowOf trb) (eqb ((c + d3 / 2 % 2) % 2) 1) = ap₂ ringAt aligned (flip c (d3 / 2 % 2) l (omega arith)) in
         let notes : noted (counted k) link ≡ counted (k + 1) = rw (clear, q) in
         at-link

@@ -1,46 +1,32 @@
--- Sixteen bytes that are inside memory, read as numbers: their two halves, dword 3, and whether they are fresh. Assumes nothing.
-use mathlib.Core.Path.{_≡_, refl, sym, ap, _∙_}
+-- Sixteen bytes of memory read as numbers: how large they are, and whether the bytes are fresh. Assumes nothing.
+use mathlib.Core.Path.{_≡_, refl}
+use mathlib.Core.List.{List}
 use mathlib.Core.Bool.{Bool, true, false, Bool·beq}
 use Prim.Native.Nat.{ℕ, zero, suc, _+_, _/_, _%_, _^_, _≤_, _<_}
-use native.Mathlib.Nat.{add-zero, div-one, mod-eq-of-lt}
+use native.Mathlib.Nat.{div-one}
 use native.Mathlib.Omega.{arith}
 use lib.Dec.{eqb}
-use Rattle.guest.specs.Judge.{judge}
-use Rattle.guest.specs.Memory.{Memory, inside, le, trbAt}
-use Rattle.guest.specs.Fields.{dword, lowOf, highOf}
-use Rattle.guest.specs.Answers.{numberAt}
-use Rattle.guest.proofs.Memory.{inside-below, inside-add, inside-less, le-part}
+use Rattle.guest.specs.Bytes.{le}
+use Rattle.guest.specs.Memory.{Memory, offset, trbAt}
+use Rattle.guest.specs.Fields.{dword}
+use Rattle.guest.proofs.Bytes.{Bytes, le-part, le-lt}
 use Rattle.trb.specs.Trb.{cycleOf}
-use Rattle.lomvigast_ffi.specs.Memory.{valueOf}
 
-module _ (m : Memory) (a : ℕ) (i : inside m a 16 ≡ true) where
-  -- so many bytes on from a
-  at : (j k : ℕ) → j + k ≤ 16 → j < 16 → valueOf (numberAt m ((a + j) % 2 ^ 64) k) ≡ le (trbAt m a) j k
-  unfolding judge
-  at j k h l =
-      let wraps : (a + j) % 2 ^ 64 ≡ a + j = omega (arith, inside-below m a 16 i) in
-      rw (wraps, inside-add m a j k ∙ inside-less m a 16 (j + k) i h) (sym (le-part k m a 16 j h))
+module _ (m : Memory) (a : ℕ) (b : Bytes (m .bytes)) where
+  pub four-below : (j : ℕ) → j + 4 ≤ 16 → le (trbAt m a) j 4 < 2 ^ 32
+  four-below j h = rw (le-part 4 (m .bytes) (offset m a) 16 j h) (le-lt 4 (m .bytes) (offset m a + j) b)
 
-  pub low-at : valueOf (numberAt m a 8) ≡ lowOf (trbAt m a)
-  unfolding judge
-  low-at = rw (inside-less m a 16 8 i (omega arith)) (sym (le-part 8 m a 16 0 (omega arith) ∙ ap (λ (x : ℕ). le m x 8) (add-zero a)))
-
-  pub high-at : valueOf (numberAt m ((a + 8) % 2 ^ 64) 8) ≡ highOf (trbAt m a)
-  high-at = at 8 8 (omega arith) (omega arith)
-
-  pub d3-at : valueOf (numberAt m ((a + 12) % 2 ^ 64) 4) ≡ dword (trbAt m a) 3
-  d3-at = at 12 4 (omega arith) (omega arith)
-
-  -- a cycle bit beside a cycle, both as numbers
-  pub fresh-yes : (c : ℕ) → dword (trbAt m a) 3 % 2 ≡ c → Bool·beq (cycleOf (trbAt m a)) (eqb c 1) ≡ true
+-- a cycle bit beside a cycle, both as numbers
+module _ (trb : List ℕ) where
+  pub fresh-yes : (c : ℕ) → dword trb 3 % 2 ≡ c → Bool·beq (cycleOf trb) (eqb c 1) ≡ true
   fresh-yes c e = rw (div-one, e) (same (eqb c 1))
     where
       same : (b : Bool) → Bool·beq b b ≡ true
       same true = refl
       same false = refl
 
-  pub fresh-no : (c : ℕ) → c < 2 → (dword (trbAt m a) 3 % 2 ≡ c → ⊥) → Bool·beq (cycleOf (trbAt m a)) (eqb c 1) ≡ false
-  fresh-no c l n = rw div-one (differ (dword (trbAt m a) 3 % 2) c (omega arith) l n)
+  pub fresh-no : (c : ℕ) → c < 2 → (dword trb 3 % 2 ≡ c → ⊥) → Bool·beq (cycleOf trb) (eqb c 1) ≡ false
+  fresh-no c l n = rw div-one (differ (dword trb 3 % 2) c (omega arith) l n)
     where
       differ : (x y : ℕ) → x < 2 → y < 2 → (x ≡ y → ⊥) → Bool·beq (eqb x 1) (eqb y 1) ≡ false
       differ zero zero p q n = absurd (n refl)

@@ -110,5 +110,5 @@ module _ (ws : List ℕ) (h : plain ws ≡ true) where
   not-last = ne-eqb (w 2) 1 (λ e. omega (arith, numbers .more))
 
   -- the words one slot on
-  pub step : wordsOf (along (fieldsOf ws)) ≡ stepped (w 1 + 16) (w 2 - 1) ws
+  pub step : wordsOf (along (fieldsOf ws)) ≡ stepped ((w 1 + 16) % 2 ^ 64) (w 2 - 1) ws
   step = rw (bit-one (w 5) (omega (arith, numbers .ready)), bit-one (w 6) (numbers .cycle))

@@ -9,10 +9,9 @@ use borrow.Author.Tests.{eq-eqb, ne-eqb}
 use lib.Dec.{eqb}
 use lib.ListN.{length, getD}
 use Rattle.guest.specs.Judge.{judge}
-use Rattle.guest.specs.Memory.{Memory, inside, le, trbAt, write}
+use Rattle.guest.specs.Memory.{Memory, inside, trbAt, write}
 use Rattle.guest.specs.Fields.{dword, lowOf, highOf, wholeOf}
-use Rattle.guest.specs.Answers.{numberAt, writeMemory}
-use Rattle.guest.proofs.Memory.{Bytes, inside-le, inside-yes, inside-less, le-part, le-add, le-lt}
+use Rattle.guest.specs.Answers.{writeMemory}
 use Rattle.trb.specs.Events.{eventBytes}
 use Rattle.event_ring.specs.Ring.{okState, along, movedTo, freshOf, readerAt, take, nothingAt, takenAt}
 use Rattle.event_ring.specs.declared.EventRing.{EventRing}
@@ -22,7 +21,6 @@ use Rattle.event_ring.proofs.Along.{along-added, along-nothing, along-taken}
 use Rattle.words.specs.Events.{eventIn, bytesFrom, written}
 use Rattle.words.specs.declared.event.CTrb.{CTrb}
 use Rattle.words.proofs.Apart.{Accepted, accepted, event-whole}
-use Rattle.lomvigast_ffi.specs.Memory.{valueOf}
 use Rattle.lomvigast_ffi.specs.Rings.{wordsOf, fieldsOf, stateOf, plain, stepped, addedFrom, memoryFrom, ringFrom, takeNumber, takenFrom, putTaken}
 use Rattle.lomvigast_ffi.proofs.Slots.{fresh-yes, fresh-no}
 use Rattle.lomvigast_ffi.proofs.States.{numbers, fields, okay, not-last, step}
@@ -39,7 +37,7 @@ module _ (m : Memory) (ws : List ℕ) (h : plain ws ≡ true) (i : inside m (get
 
   -- ---- add
 
-  module _ (es : List ℕ) (report : ℕ) (r : report % 16 ≡ 0) (f : w 1 + 16 ≡ report → ⊥) (t : CTrb) (e : t ≡ written (bytesFrom (eventIn es) (eqb (w 6 % 2) 1))) (a : 2 ^ 8 ≤ t .high) where
+  module _ (es : List ℕ) (report : ℕ) (r : report % 16 ≡ 0) (f : (w 1 + 16) % 2 ^ 64 ≡ report → ⊥) (t : CTrb) (e : t ≡ written (bytesFrom (eventIn es) (eqb (w 6 % 2) 1))) (a : 2 ^ 8 ≤ t .high) where
     was : Accepted (eventIn es) (eqb (w 6 % 2) 1)
     was = accepted es (eqb (w 6 % 2) 1) (rw e at a)
 
@@ -49,14 +47,14 @@ module _ (m : Memory) (ws : List ℕ) (h : plain ws ≡ true) (i : inside m (get
         ∙ event-whole (was .event) (eqb (w 6 % 2) 1)
         ∙ ap (eventBytes (was .event)) cycle-is
 
-    pub usual-add : (after : Memory) → after ≡ writeMemory m (w 1) (wholeOf (t .low) (t .high))
+    pub usual-add : (after : List ℕ) → after ≡ writeMemory m (w 1) (wholeOf (t .low) (t .high)) .bytes
         → (0 ≡ addedFrom m (stateOf ws) (eventIn es) report .refusal)
-        × (after ≡ memoryFrom m (stateOf ws) (eventIn es) report)
-        × (stepped (w 1 + 16) (w 2 - 1) ws ≡ ringFrom m ws (eventIn es) report)
+        × (after ≡ memoryFrom m (stateOf ws) (eventIn es) report .bytes)
+        × (stepped ((w 1 + 16) % 2 ^ 64) (w 2 - 1) ws ≡ ringFrom m ws (eventIn es) report)
     unfolding judge
     usual-add after g =
         let q = along-added m s (okay ws h) (not-last ws h) i (was .event) report (was .good) r f in
-        rw (was .given, fields ws h, q .0, q .1) (refl, (rw i at g) ∙ ap (write m (w 1)) bytes, sym (step ws h))
+        rw (was .given, fields ws h, q .0, q .1) (refl, (rw i at g) ∙ ap (λ (v : List ℕ). write m (w 1) v .bytes) bytes, sym (step ws h))
 
   -- ---- take
 
@@ -66,13 +64,13 @@ module _ (m : Memory) (ws : List ℕ) (h : plain ws ≡ true) (i : inside m (get
   pub usual-nothing : (dword (trbAt m (w 1)) 3 % 2 ≡ w 6 → ⊥) → (out : List ℕ)
       → (255 ≡ takeNumber (taken .answer)) × (ws ≡ takenFrom taken ws) × (out ≡ putTaken taken out)
   usual-nothing n out =
-      rw (fields ws h, along-nothing m s (okay ws h) (not-last ws h) i (fresh-no m (w 1) i (w 6) (numbers ws h .cycle) n))
+      rw (fields ws h, along-nothing m s (okay ws h) (not-last ws h) i (fresh-no (trbAt m (w 1)) (w 6) (numbers ws h .cycle) n))
       (refl, refl, refl)
 
   pub usual-take : dword (trbAt m (w 1)) 3 % 2 ≡ w 6 → (out : List ℕ)
       → (0 ≡ takeNumber (taken .answer))
-      × (stepped (w 1 + 16) (w 2 - 1) ws ≡ takenFrom taken ws)
+      × (stepped ((w 1 + 16) % 2 ^ 64) (w 2 - 1) ws ≡ takenFrom taken ws)
       × (lowOf (trbAt m (w 1)) ∷ highOf (trbAt m (w 1)) ∷ [] ≡ putTaken taken out)
   usual-take y out =
-      rw (fields ws h, along-taken m s (okay ws h) (not-last ws h) i (fresh-yes m (w 1) i (w 6) y))
+      rw (fields ws h, along-taken m s (okay ws h) (not-last ws h) i (fresh-yes (trbAt m (w 1)) (w 6) y))
       (refl, sym (step ws h), refl)

@@ -1,6 +1,6 @@
 -- The link-following reader by words: the ring is two, its place and its cycle state, 0 or 1.
 use Prim.Native.Nat.{ℕ, _+_, _*_, _%_, _^_}
-use mathlib.Core.Bool.{Bool, false, cond}
+use mathlib.Core.Bool.{cond}
 use mathlib.Core.List.{List, [], _∷_}
 use lib.Dec.{eqb}
 use lib.ListN.{getD}
@@ -32,10 +32,6 @@ kindOf (Answer.Refused n) = 3
 
 abbrev pub notesWord : Notes → ℕ
 notesWord n = n .links + bit (n .cleared) * 2 ^ 16 + bit (n .completion) * 2 ^ 24
-
--- so many links, and nothing else to note
-abbrev pub counted : ℕ → Notes
-counted n = record { links = n; cleared = false; completion = false }
 
 -- the five words of a chase as Rust and C hold it: byte 0 is the kind, byte 1 a refusal's number; the address and the sixteen bytes; in
 -- the last word the notes, two bytes of links and a byte for each flag

@@ -6,14 +6,12 @@ use linked_ring::LinkedRing;
 use linked_ring::Notes;
 ghost use mathlib.Core.Path.{_≡_};
 ghost use mathlib.Core.List.{[], _∷_};
-ghost use Prim.Native.Nat.{_+_, _-_, _*_, _%_, _^_, _<_};
-ghost use lib.Dec.{eqb};
+ghost use Prim.Native.Nat.{_+_, _*_, _^_, _<_};
 ghost use lib.ListN.{set};
-ghost use Rattle.guest.specs.Answers.{numberAt};
+ghost use Rattle.guest.specs.Memory.{window};
 ghost use Rattle.trb.specs.Trb.{bit};
-ghost use Rattle.linked_ring.specs.Chase.{ringAt, advanced, chase, chaseFrom, numberOf};
-ghost use Rattle.lomvigast_ffi.specs.Memory.{valueOf};
-ghost use Rattle.lomvigast_ffi.specs.Linked.{ringOf, ringWords, ringAfter, kindOf, notesWord, counted, flatChase};
+ghost use Rattle.linked_ring.specs.Chase.{ringAt, advanced, chase, numberOf};
+ghost use Rattle.lomvigast_ffi.specs.Linked.{ringOf, ringWords, ringAfter, kindOf, notesWord, flatChase};
 
 // The place, and the cycle state as 0 or 1.
 pub type CLinkedRing = [u64; 2];
@@ -84,19 +82,13 @@ fn flat_chase(c: Chase) -> CChase
     }
 }
 
-// A Link that leaves something to note, a TRB outside memory, or the 257th fresh Link: the whole rule, from here on.
-fn go_on(mem: &[u8], ring: &mut CLinkedRing, place: u64, cycle: u64, links: u16) -> CChase
-    ensures { λ r. ⌜ (r ≡ flatChase (chaseFrom (now (mem .entry)) (ringOf (now (ring .entry))) (256 - links) (ringAt place (eqb cycle 1)) (counted links)))
-        × (now (ring .exit) ≡ ringAfter (chaseFrom (now (mem .entry)) (ringOf (now (ring .entry))) (256 - links) (ringAt place (eqb cycle 1)) (counted links)) (now (ring .entry))) ⌝ }
+// The whole rule.
+fn chase(start: u64, mem: &[u8], ring: &mut CLinkedRing) -> CChase
+    ensures { λ r. ⌜ (r ≡ flatChase (chase (window start (now (mem .entry))) (ringOf (now (ring .entry)))))
+        × (now (ring .exit) ≡ ringAfter (chase (window start (now (mem .entry))) (ringOf (now (ring .entry)))) (now (ring .entry))) ⌝ }
 {
     let entry = ring_of(ring);
-    let notes = Notes {
-        links,
-        cleared: false,
-        completion: false,
-    };
-    let here = LinkedRing::new(place, cycle == 1);
-    let c = here.go_on(mem, entry, notes);
+    let c = entry.next_trb(start, mem);
     let answer = c.answer;
     if refusal(answer) != 0 {
         return flat_chase(c);
@@ -105,21 +97,20 @@ fn go_on(mem: &[u8], ring: &mut CLinkedRing, place: u64, cycle: u64, links: u16)
     flat_chase(c)
 }
 
-fn found(mem: &[u8], ring: &mut CLinkedRing, place: u64, cycle: u64, links: u16) -> CChase
-    ensures { λ r. ⌜ (r ≡ record { kind = 1; address = place; low = valueOf (numberAt (now (mem .entry)) place 8); high = valueOf (numberAt (now (mem .entry)) ((place + 8) % 2 ^ 64) 8); notes = links })
-        × (now (ring .exit) ≡ place ∷ cycle ∷ []) ⌝ }
+fn found(ring: &mut CLinkedRing, place: u64, cycle: u64, links: u64, low: u64, high: u64) -> CChase
+    ensures { λ r. ⌜ (r ≡ record { kind = 1; address = place; low = low; high = high; notes = links }) × (now (ring .exit) ≡ place ∷ cycle ∷ []) ⌝ }
 {
     put(ring, place, cycle);
     CChase {
         kind: 1,
         address: place,
-        low: crate::memory::eight(mem, place),
-        high: crate::memory::eight(mem, std::num::wrapping_add_u64(place, 8)),
-        notes: links as u64,
+        low,
+        high,
+        notes: links,
     }
 }
 
-fn nothing_new(ring: &mut CLinkedRing, place: u64, cycle: u64, links: u16) -> CChase
+fn nothing_new(ring: &mut CLinkedRing, place: u64, cycle: u64, links: u64) -> CChase
     ensures { λ r. ⌜ (r ≡ record { kind = 0; address = 0; low = 0; high = 0; notes = links }) × (now (ring .exit) ≡ place ∷ cycle ∷ []) ⌝ }
 {
     put(ring, place, cycle);
@@ -128,40 +119,39 @@ fn nothing_new(ring: &mut CLinkedRing, place: u64, cycle: u64, links: u16) -> CC
         address: 0,
         low: 0,
         high: 0,
-        notes: links as u64,
+        notes: links,
     }
 }
 
-// Links that leave nothing to note are followed here, all else by `go_on`. The next place is a Link's pointer as it was read and not what
+// Links that leave nothing to note are followed here; where anything else is met, the whole rule begins anew. The next place is a Link's pointer as it was read and not what
 // is left of it after a mask, so that the next TRB can be read a step earlier.
 #[no_mangle]
-pub extern "C" fn lomvigast_next_trb(mem: &[u8], ring: &mut CLinkedRing) -> CChase
-    ensures { λ r. ⌜ (r ≡ flatChase (chase (now (mem .entry)) (ringOf (now (ring .entry)))))
-        × (now (ring .exit) ≡ ringAfter (chase (now (mem .entry)) (ringOf (now (ring .entry)))) (now (ring .entry))) ⌝ }
+pub extern "C" fn lomvigast_next_trb(start: u64, mem: &[u8], ring: &mut CLinkedRing) -> CChase
+    ensures { λ r. ⌜ (r ≡ flatChase (chase (window start (now (mem .entry))) (ringOf (now (ring .entry)))))
+        × (now (ring .exit) ≡ ringAfter (chase (window start (now (mem .entry))) (ringOf (now (ring .entry)))) (now (ring .entry))) ⌝ }
 {
     let mut place = ring[0];
     let mut cycle = ring[1] % 2;
-    let mut links = 0u16;
-    while links < LinkedRing::MOST_LINKS {
-        if !guest::inside(mem, place, 16) {
-            return go_on(mem, ring, place, cycle, links);
+    let mut links = 0u64;
+    while links < (LinkedRing::MOST_LINKS as u64) {
+        let slot = guest::read_next_slot(start, mem, place);
+        if slot.refusal != 0 {
+            break;
         }
-        let d3 = crate::memory::four(mem, std::num::wrapping_add_u64(place, 12));
-        if d3 % 2 != cycle {
+        if slot.d3 % 2 != cycle {
             return nothing_new(ring, place, cycle, links);
         }
-        if d3 / 0x400 % 0x40 != (trb_types::LINK as u64) {
-            return found(mem, ring, place, cycle, links);
+        if slot.d3 / 0x400 % 0x40 != (trb_types::LINK as u64) {
+            return found(ring, place, cycle, links, slot.low, slot.high);
         }
-        let low = crate::memory::eight(mem, place);
-        if !((d3 / 0x20 % 2 == 0) & (low % 16 == 0)) {
-            return go_on(mem, ring, place, cycle, links);
+        if !((slot.d3 / 0x20 % 2 == 0) & (slot.low % 16 == 0)) {
+            break;
         }
-        place = low;
-        cycle = (cycle + d3 / 2 % 2) % 2;
+        place = slot.low;
+        cycle = (cycle + slot.d3 / 2 % 2) % 2;
         links = links + 1;
     }
-    go_on(mem, ring, place, cycle, links)
+    chase(start, mem, ring)
 }
 
 // One TRB further, modulo 2^64.

@@ -1,7 +1,7 @@
 // Guest memory by address.
 use guest::Number;
 ghost use mathlib.Core.Path.{_≡_};
-ghost use Rattle.guest.specs.Memory.{inside};
+ghost use Rattle.guest.specs.Memory.{window, inside};
 ghost use Rattle.guest.specs.Fields.{wholeOf};
 ghost use Rattle.guest.specs.Answers.{numberAt, trbRead, writeNumber, writeMemory, numberOf};
 ghost use Rattle.lomvigast_ffi.specs.Memory.{valueOf, flatNumber, putTrb};
@@ -40,53 +40,39 @@ fn flat_number(number: Number) -> CNumber
     }
 }
 
-// The number of four and of eight bytes; 0 where they are not inside.
-
-pub(crate) fn four(mem: &[u8], address: u64) -> u64
-    ensures { λ r. ⌜ r ≡ valueOf (numberAt (now (mem .entry)) address 4) ⌝ }
+#[no_mangle]
+pub extern "C" fn lomvigast_inside(start: u64, mem: &[u8], address: u64, length: u64) -> bool
+    ensures { λ r. ⌜ r ≡ inside (window start (now (mem .entry))) address length ⌝ }
 {
-    value(guest::read4(mem, address))
-}
-
-pub(crate) fn eight(mem: &[u8], address: u64) -> u64
-    ensures { λ r. ⌜ r ≡ valueOf (numberAt (now (mem .entry)) address 8) ⌝ }
-{
-    value(guest::read8(mem, address))
+    guest::inside(start, mem, address, length)
 }
 
 #[no_mangle]
-pub extern "C" fn lomvigast_inside(mem: &[u8], address: u64, length: u64) -> bool
-    ensures { λ r. ⌜ r ≡ inside (now (mem .entry)) address length ⌝ }
+pub extern "C" fn lomvigast_read2(start: u64, mem: &[u8], address: u64) -> CNumber
+    ensures { λ r. ⌜ r ≡ flatNumber (numberAt (window start (now (mem .entry))) address 2) ⌝ }
 {
-    guest::inside(mem, address, length)
+    flat_number(guest::read2(start, mem, address))
 }
 
 #[no_mangle]
-pub extern "C" fn lomvigast_read2(mem: &[u8], address: u64) -> CNumber
-    ensures { λ r. ⌜ r ≡ flatNumber (numberAt (now (mem .entry)) address 2) ⌝ }
+pub extern "C" fn lomvigast_read4(start: u64, mem: &[u8], address: u64) -> CNumber
+    ensures { λ r. ⌜ r ≡ flatNumber (numberAt (window start (now (mem .entry))) address 4) ⌝ }
 {
-    flat_number(guest::read2(mem, address))
+    flat_number(guest::read4(start, mem, address))
 }
 
 #[no_mangle]
-pub extern "C" fn lomvigast_read4(mem: &[u8], address: u64) -> CNumber
-    ensures { λ r. ⌜ r ≡ flatNumber (numberAt (now (mem .entry)) address 4) ⌝ }
+pub extern "C" fn lomvigast_read8(start: u64, mem: &[u8], address: u64) -> CNumber
+    ensures { λ r. ⌜ r ≡ flatNumber (numberAt (window start (now (mem .entry))) address 8) ⌝ }
 {
-    flat_number(guest::read4(mem, address))
+    flat_number(guest::read8(start, mem, address))
 }
 
 #[no_mangle]
-pub extern "C" fn lomvigast_read8(mem: &[u8], address: u64) -> CNumber
-    ensures { λ r. ⌜ r ≡ flatNumber (numberAt (now (mem .entry)) address 8) ⌝ }
+pub extern "C" fn lomvigast_read_trb(start: u64, mem: &[u8], address: u64, out: &mut [u64; 2]) -> u8
+    ensures { λ r. ⌜ (r ≡ trbRead (window start (now (mem .entry))) address .refusal) × (now (out .exit) ≡ putTrb (trbRead (window start (now (mem .entry))) address) (now (out .entry))) ⌝ }
 {
-    flat_number(guest::read8(mem, address))
-}
-
-#[no_mangle]
-pub extern "C" fn lomvigast_read_trb(mem: &[u8], address: u64, out: &mut [u64; 2]) -> u8
-    ensures { λ r. ⌜ (r ≡ trbRead (now (mem .entry)) address .refusal) × (now (out .exit) ≡ putTrb (trbRead (now (mem .entry)) address) (now (out .entry))) ⌝ }
-{
-    let read = guest::read_trb(mem, address);
+    let read = guest::read_trb(start, mem, address);
     if read.refusal != 0 {
         return read.refusal;
     }
@@ -96,8 +82,14 @@ pub extern "C" fn lomvigast_read_trb(mem: &[u8], address: u64, out: &mut [u64; 2
 }
 
 #[no_mangle]
-pub extern "C" fn lomvigast_write_trb(mem: &mut [u8], address: u64, low: u64, high: u64) -> u8
-    ensures { λ r. ⌜ (r ≡ writeNumber (now (mem .entry)) address) × (now (mem .exit) ≡ writeMemory (now (mem .entry)) address (wholeOf low high)) ⌝ }
+pub extern "C" fn lomvigast_write_trb(
+    start: u64,
+    mem: &mut [u8],
+    address: u64,
+    low: u64,
+    high: u64,
+) -> u8
+    ensures { λ r. ⌜ (r ≡ writeNumber (window start (now (mem .entry))) address) × (now (mem .exit) ≡ writeMemory (window start (now (mem .entry))) address (wholeOf low high) .bytes) ⌝ }
 {
-    guest::write_trb(mem, address, guest::whole(low, high))
+    guest::write_trb(start, mem, address, guest::whole(low, high))
 }

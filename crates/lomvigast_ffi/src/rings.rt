@@ -4,6 +4,8 @@ use event_ring::EventRing;
 use event_ring::Take;
 use trb::event::EventVariant;
 ghost use mathlib.Core.Path.{_≡_};
+ghost use Prim.Native.Nat.{_*_, _/_};
+ghost use Rattle.guest.specs.Memory.{window};
 ghost use Rattle.event_ring.specs.Ring.{empty, configured, readerAt, readerConfigured, take};
 ghost use Rattle.words.specs.Events.{eventIn};
 ghost use Rattle.lomvigast_ffi.specs.Rings.{wordsOf, fits, stateOf, plain, stepped, ringAfter, readerAfter, addedFrom, memoryFrom, ringFrom, takeNumber, putTaken, takenFrom};
@@ -83,6 +85,13 @@ fn plain(ring: &CEventRing) -> bool
         & (ring[CYCLE] < 2)
 }
 
+// A plain ring's place as it is, since it is a multiple of 16; of this one the compiler sees it, and asks less of it.
+fn rounded(place: u64) -> u64
+    ensures { λ r. ⌜ r ≡ place / 16 * 16 ⌝ }
+{
+    place / EventRing::SLOT_SIZE * EventRing::SLOT_SIZE
+}
+
 // Another place in the same segment.
 fn step(ring: &mut CEventRing, place: u64, remaining: u64)
     ensures { λ _. ⌜ now (ring .exit) ≡ stepped place remaining (now (ring .entry)) ⌝ }
@@ -107,14 +116,15 @@ pub extern "C" fn lomvigast_reset(ring: &mut CEventRing)
 
 #[no_mangle]
 pub extern "C" fn lomvigast_configure(
+    start: u64,
     mem: &[u8],
     ring: &mut CEventRing,
     table: u64,
     entries: u16,
 ) -> u8
-    ensures { λ r. ⌜ (r ≡ configured (now (mem .entry)) (stateOf (now (ring .entry))) table entries .refusal) × (now (ring .exit) ≡ ringAfter (configured (now (mem .entry)) (stateOf (now (ring .entry))) table entries) (now (ring .entry))) ⌝ }
+    ensures { λ r. ⌜ (r ≡ configured (window start (now (mem .entry))) (stateOf (now (ring .entry))) table entries .refusal) × (now (ring .exit) ≡ ringAfter (configured (window start (now (mem .entry))) (stateOf (now (ring .entry))) table entries) (now (ring .entry))) ⌝ }
 {
-    let moved = state(ring).configure(mem, table, entries);
+    let moved = state(ring).configure(start, mem, table, entries);
     if moved.refusal != 0 {
         return moved.refusal;
     }
@@ -125,15 +135,16 @@ pub extern "C" fn lomvigast_configure(
 
 #[no_mangle]
 pub extern "C" fn lomvigast_configure_reader(
+    start: u64,
     mem: &[u8],
     reader: &mut CEventRing,
     table: u64,
     entries: u16,
 ) -> u8
-    ensures { λ r. ⌜ (r ≡ readerConfigured (now (mem .entry)) (readerAt (stateOf (now (reader .entry)))) table entries .refusal) × (now (reader .exit) ≡ readerAfter (readerConfigured (now (mem .entry)) (readerAt (stateOf (now (reader .entry)))) table entries) (now (reader .entry))) ⌝ }
+    ensures { λ r. ⌜ (r ≡ readerConfigured (window start (now (mem .entry))) (readerAt (stateOf (now (reader .entry)))) table entries .refusal) × (now (reader .exit) ≡ readerAfter (readerConfigured (window start (now (mem .entry))) (readerAt (stateOf (now (reader .entry)))) table entries) (now (reader .entry))) ⌝ }
 {
     let state = state(reader);
-    let moved = EventReader { state }.configure(mem, table, entries);
+    let moved = EventReader { state }.configure(start, mem, table, entries);
     if moved.refusal != 0 {
         return moved.refusal;
     }
@@ -143,14 +154,14 @@ pub extern "C" fn lomvigast_configure_reader(
 }
 
 // The whole rule.
-fn add(mem: &mut [u8], ring: &mut CEventRing, event: &[u64; 3], report: u64) -> u8
-    ensures { λ r. ⌜ (r ≡ addedFrom (now (mem .entry)) (stateOf (now (ring .entry))) (eventIn (now (event .entry))) report .refusal) × (now (mem .exit) ≡ memoryFrom (now (mem .entry)) (stateOf (now (ring .entry))) (eventIn (now (event .entry))) report) × (now (ring .exit) ≡ ringFrom (now (mem .entry)) (now (ring .entry)) (eventIn (now (event .entry))) report) ⌝ }
+fn add(start: u64, mem: &mut [u8], ring: &mut CEventRing, event: &[u64; 3], report: u64) -> u8
+    ensures { λ r. ⌜ (r ≡ addedFrom (window start (now (mem .entry))) (stateOf (now (ring .entry))) (eventIn (now (event .entry))) report .refusal) × (now (mem .exit) ≡ memoryFrom (window start (now (mem .entry))) (stateOf (now (ring .entry))) (eventIn (now (event .entry))) report .bytes) × (now (ring .exit) ≡ ringFrom (window start (now (mem .entry))) (now (ring .entry)) (eventIn (now (event .entry))) report) ⌝ }
 {
     let given = words::event::given(event);
     let EventVariant::Event(e) = given else {
         return words::event::number(given);
     };
-    let moved = state(ring).add(mem, e, report);
+    let moved = state(ring).add(start, mem, e, report);
     if moved.refusal != 0 {
         return moved.refusal;
     }
@@ -163,39 +174,41 @@ fn add(mem: &mut [u8], ring: &mut CEventRing, event: &[u64; 3], report: u64) -> 
 // its segment, is done here; all else by `add`.
 #[no_mangle]
 pub extern "C" fn lomvigast_add(
+    start: u64,
     mem: &mut [u8],
     ring: &mut CEventRing,
     event: &[u64; 3],
     report: u64,
 ) -> u8
-    ensures { λ r. ⌜ (r ≡ addedFrom (now (mem .entry)) (stateOf (now (ring .entry))) (eventIn (now (event .entry))) report .refusal) × (now (mem .exit) ≡ memoryFrom (now (mem .entry)) (stateOf (now (ring .entry))) (eventIn (now (event .entry))) report) × (now (ring .exit) ≡ ringFrom (now (mem .entry)) (now (ring .entry)) (eventIn (now (event .entry))) report) ⌝ }
+    ensures { λ r. ⌜ (r ≡ addedFrom (window start (now (mem .entry))) (stateOf (now (ring .entry))) (eventIn (now (event .entry))) report .refusal) × (now (mem .exit) ≡ memoryFrom (window start (now (mem .entry))) (stateOf (now (ring .entry))) (eventIn (now (event .entry))) report .bytes) × (now (ring .exit) ≡ ringFrom (window start (now (mem .entry))) (now (ring .entry)) (eventIn (now (event .entry))) report) ⌝ }
 {
-    let place = ring[PLACE];
+    let place = rounded(ring[PLACE]);
+    if !guest::inside(start, mem, place, 16) {
+        return add(start, mem, ring, event, report);
+    }
     if !(plain(ring) & (report % EventRing::SLOT_SIZE == 0)) {
-        return add(mem, ring, event, report);
+        return add(start, mem, ring, event, report);
     }
-    if !guest::inside(mem, place, 16) {
-        return add(mem, ring, event, report);
-    }
-    if place + 16 == report {
-        return add(mem, ring, event, report);
+    let next = std::num::wrapping_add_u64(place, EventRing::SLOT_SIZE);
+    if next == report {
+        return add(start, mem, ring, event, report);
     }
     let trb = words::event::bytes(event, ring[CYCLE]);
     if trb.high < 0x100 {
-        return add(mem, ring, event, report);
+        return add(start, mem, ring, event, report);
     }
-    guest::write_trb(mem, place, guest::whole(trb.low, trb.high));
+    guest::write_trb(start, mem, place, guest::whole(trb.low, trb.high));
     let remaining = ring[REMAINING] - 1;
-    step(ring, place + 16, remaining);
+    step(ring, next, remaining);
     0
 }
 
 // The whole rule.
-fn take(mem: &[u8], reader: &mut CEventRing, out: &mut [u64; 2]) -> u8
-    ensures { λ r. ⌜ (r ≡ takeNumber (take (now (mem .entry)) (readerAt (stateOf (now (reader .entry)))) .answer)) × (now (reader .exit) ≡ takenFrom (take (now (mem .entry)) (readerAt (stateOf (now (reader .entry))))) (now (reader .entry))) × (now (out .exit) ≡ putTaken (take (now (mem .entry)) (readerAt (stateOf (now (reader .entry))))) (now (out .entry))) ⌝ }
+fn take(start: u64, mem: &[u8], reader: &mut CEventRing, out: &mut [u64; 2]) -> u8
+    ensures { λ r. ⌜ (r ≡ takeNumber (take (window start (now (mem .entry))) (readerAt (stateOf (now (reader .entry)))) .answer)) × (now (reader .exit) ≡ takenFrom (take (window start (now (mem .entry))) (readerAt (stateOf (now (reader .entry))))) (now (reader .entry))) × (now (out .exit) ≡ putTaken (take (window start (now (mem .entry))) (readerAt (stateOf (now (reader .entry))))) (now (out .entry))) ⌝ }
 {
     let state = state(reader);
-    let taken = EventReader { state }.take(mem);
+    let taken = EventReader { state }.take(start, mem);
     let answer = taken.answer;
     match answer {
         Take::Nothing => NOTHING,
@@ -213,23 +226,28 @@ fn take(mem: &[u8], reader: &mut CEventRing, out: &mut [u64; 2]) -> u8
 // Takes the event that stands in the reader's slot, if the slot is fresh: 0, with the event's halves in `out`; 255 where it is not. The
 // usual case, in which the reader goes on in its segment, is done here; all else by `take`.
 #[no_mangle]
-pub extern "C" fn lomvigast_take(mem: &[u8], reader: &mut CEventRing, out: &mut [u64; 2]) -> u8
-    ensures { λ r. ⌜ (r ≡ takeNumber (take (now (mem .entry)) (readerAt (stateOf (now (reader .entry)))) .answer)) × (now (reader .exit) ≡ takenFrom (take (now (mem .entry)) (readerAt (stateOf (now (reader .entry))))) (now (reader .entry))) × (now (out .exit) ≡ putTaken (take (now (mem .entry)) (readerAt (stateOf (now (reader .entry))))) (now (out .entry))) ⌝ }
+pub extern "C" fn lomvigast_take(
+    start: u64,
+    mem: &[u8],
+    reader: &mut CEventRing,
+    out: &mut [u64; 2],
+) -> u8
+    ensures { λ r. ⌜ (r ≡ takeNumber (take (window start (now (mem .entry))) (readerAt (stateOf (now (reader .entry)))) .answer)) × (now (reader .exit) ≡ takenFrom (take (window start (now (mem .entry))) (readerAt (stateOf (now (reader .entry))))) (now (reader .entry))) × (now (out .exit) ≡ putTaken (take (window start (now (mem .entry))) (readerAt (stateOf (now (reader .entry))))) (now (out .entry))) ⌝ }
 {
-    let place = reader[PLACE];
+    let place = rounded(reader[PLACE]);
+    let slot = guest::read_slot(start, mem, place);
+    if slot.refusal != 0 {
+        return take(start, mem, reader, out);
+    }
     if !plain(reader) {
-        return take(mem, reader, out);
+        return take(start, mem, reader, out);
     }
-    if !guest::inside(mem, place, 16) {
-        return take(mem, reader, out);
-    }
-    let d3 = crate::memory::four(mem, std::num::wrapping_add_u64(place, 12));
-    if d3 % 2 != reader[CYCLE] {
+    if slot.d3 % 2 != reader[CYCLE] {
         return NOTHING;
     }
     let remaining = reader[REMAINING] - 1;
-    let high = crate::memory::eight(mem, std::num::wrapping_add_u64(place, 8));
-    *out = [crate::memory::eight(mem, place), high];
-    step(reader, place + 16, remaining);
+    *out = [slot.low, slot.high];
+    let next = std::num::wrapping_add_u64(place, EventRing::SLOT_SIZE);
+    step(reader, next, remaining);
     0
 }

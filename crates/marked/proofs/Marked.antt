@@ -2,10 +2,11 @@
 use mathlib.Core.Path.{_≡_, refl, ap}
 use mathlib.Core.Bool.{Bool, true, false, not}
 use mathlib.Core.List.{List, [], _∷_, _++_}
-use Prim.Native.Nat.{ℕ, zero, suc}
+use Prim.Native.Nat.{ℕ, zero, suc, _+_}
 use lib.ListN.{replicate}
 use Rattle.guest.specs.Judge.{judge}
-use Rattle.guest.specs.Memory.{Memory, inside, le, part, trbAt, write}
+use Rattle.guest.specs.Bytes.{le, part, write}
+use Rattle.guest.specs.Memory.{Memory, window, inside, trbAt}
 use Rattle.guest.specs.Fields.{field, bytesOf}
 use Rattle.codes.specs.Codes.{numberOf}
 use Rattle.codes.specs.declared.CompletionCode.{CompletionCode}
@@ -26,13 +27,13 @@ use Rattle.event_ring.specs.declared.EventRing.{EventRing}
 
 -- ---- rings: memories, and what comes of adding one event after another
 
--- an entry of a table whose base is 0x100 plus lo
+-- an entry of a table
 abbrev entry : ℕ → ℕ → List ℕ
-entry lo size = lo ∷ 1 ∷ replicate 6 0 ++ (size ∷ replicate 7 0)
+entry base size = bytesOf 8 base ++ bytesOf 8 size
 
--- a table at 0, and zeros behind it beyond the segments
-abbrev memory : List ℕ → Memory
-memory table = table ++ replicate 0x150 0
+-- a table at the window's start, and zeros behind it beyond the segments
+abbrev memory : ℕ → List ℕ → Memory
+memory start table = window start (table ++ replicate 0x150 0)
 
 abbrev portEvent : EventTrb
 portEvent = EventTrb.PortStatusChange (record { «port_id» = 3 })
@@ -50,16 +51,32 @@ outcomes m s (report ∷ reports) =
     record { number = added m s portEvent report .refusal; slot = s .place; cycle = cycleOf (trbAt m′ (s .place)) }
     ∷ outcomes m′ (added m s portEvent report .ring) reports
 
--- adds with these reports to a ring configured on a table of so many entries at 0
-abbrev adding : List ℕ → ℕ → List ℕ → List Outcome
-adding table entries reports = outcomes (memory table) (configured (memory table) empty 0 entries .ring) reports
+-- adds with these reports to a ring configured on a table of so many entries
+abbrev adding : ℕ → List ℕ → ℕ → List ℕ → List Outcome
+adding start table entries reports = outcomes (memory start table) (configured (memory start table) empty start entries .ring) reports
 
 abbrev outcome : ℕ → ℕ → Bool → Outcome
 outcome n slot cycle = record { number = n; slot = slot; cycle = cycle }
 
--- a Link at address 0 to address 0, with these bits in byte 12
-abbrev linkToZero : ℕ → Memory
-linkToZero bits = 0 ∷ 0 ∷ 0 ∷ 0 ∷ 0 ∷ 0 ∷ 0 ∷ 0 ∷ 0 ∷ 0 ∷ 0 ∷ 0 ∷ bits ∷ 0x18 ∷ 0 ∷ 0 ∷ []
+-- a Link at the window's start to itself, with these bits in byte 12
+abbrev linkToStart : ℕ → ℕ → Memory
+linkToStart start bits = window start (bytesOf 8 start ++ (0 ∷ 0 ∷ 0 ∷ 0 ∷ bits ∷ 0x18 ∷ 0 ∷ 0 ∷ []))
+
+-- the cases that have addresses, in a window that begins at b, with every address told from there
+pub record Rings (b : ℕ) : Type 0 where
+  -- a fresh Link to itself
+  pub L1 : chase (linkToStart b 1) (ringAt b true) ≡ ended Answer.TooManyLinks (ringAt b true) (record { links = 256; cleared = false; completion = false })
+  pub L2 : chase (linkToStart b 3) (ringAt b true) ≡ ended Answer.NothingNew (ringAt b false) (record { links = 1; cleared = false; completion = false })
+  -- one segment, base 0x100, size 2
+  pub R1 :
+      adding b (entry (b + 0x100) 2) 1 ((b + 0x100) ∷ (b + 0x100) ∷ (b + 0x110) ∷ (b + 0x110) ∷ (b + 0x100) ∷ [])
+      ≡ outcome 0 (b + 0x100) true ∷ outcome 7 (b + 0x110) false ∷ outcome 0 (b + 0x110) true ∷ outcome 7 (b + 0x100) true ∷ outcome 0 (b + 0x100) false ∷ []
+  -- one segment of size 1, report its base: always 7
+  pub R2 : (n : ℕ) → adding b (entry (b + 0x100) 1) 1 (replicate n (b + 0x100)) ≡ replicate n (outcome 7 (b + 0x100) false)
+  -- sizes 1 and 1: one accepted, then 7, until a report moves
+  pub R3 :
+      adding b (entry (b + 0x100) 1 ++ entry (b + 0x140) 1) 2 ((b + 0x100) ∷ (b + 0x100) ∷ (b + 0x140) ∷ (b + 0x140) ∷ [])
+      ≡ outcome 0 (b + 0x100) true ∷ outcome 7 (b + 0x140) false ∷ outcome 0 (b + 0x140) true ∷ outcome 7 (b + 0x100) true ∷ []
 
 pub record Marked : Type 0 where
   -- command completion, pointer 0x1000, parameter 0, code 1, slot 1, cycle 1
@@ -107,25 +124,23 @@ pub record Marked : Type 0 where
       → chase m r ≡ ended Answer.TooManyLinks r (notesOf 256 l)
   pub L2 : (m : Memory) (r : LinkedRing) (l : LinkTrb) → Itself m r l → l .«toggle_cycle» ≡ true
       → chase m r ≡ ended Answer.NothingNew (ringAt (r .place) (not (r .cycle))) (notesOf 1 l)
-  -- and at the sixteen bytes of such a Link at address 0
-  pub L1-bytes : chase (linkToZero 1) (ringAt 0 true) ≡ ended Answer.TooManyLinks (ringAt 0 true) (record { links = 256; cleared = false; completion = false })
-  pub L2-bytes : chase (linkToZero 3) (ringAt 0 true) ≡ ended Answer.NothingNew (ringAt 0 false) (record { links = 1; cleared = false; completion = false })
-  -- one segment, base 0x100, size 2
-  pub R1 :
-      adding (entry 0 2) 1 (0x100 ∷ 0x100 ∷ 0x110 ∷ 0x110 ∷ 0x100 ∷ [])
-      ≡ outcome 0 0x100 true ∷ outcome 7 0x110 false ∷ outcome 0 0x110 true ∷ outcome 7 0x100 true ∷ outcome 0 0x100 false ∷ []
-  -- one segment of size 1, report its base: always 7
-  pub R2 : (n : ℕ) → adding (entry 0 1) 1 (replicate n 0x100) ≡ replicate n (outcome 7 0x100 false)
-  -- sizes 1 and 1: one accepted, then 7, until a report moves
-  pub R3 :
-      adding (entry 0 1 ++ entry 0x40 1) 2 (0x100 ∷ 0x100 ∷ 0x140 ∷ 0x140 ∷ [])
-      ≡ outcome 0 0x100 true ∷ outcome 7 0x140 false ∷ outcome 0 0x140 true ∷ outcome 7 0x100 true ∷ []
+  -- and at the bytes of a window that begins at 0, as document 01 has them, and of one that begins at 2 ^ 64 - 0x200
+  pub rings : Rings 0
+  pub moved : Rings 0xffff_ffff_ffff_fe00
 
 -- R2: the refusal leaves memory and ring as they were, so the next add is refused too
-always-full : (n : ℕ) → adding (entry 0 1) 1 (replicate n 0x100) ≡ replicate n (outcome 7 0x100 false)
+always-full : (n : ℕ) → adding 0 (entry 0x100 1) 1 (replicate n 0x100) ≡ replicate n (outcome 7 0x100 false)
 unfolding judge le part inside write bytesOf numberOf eventDwords valid entryAt goodEntry okState nextIndex nextTests nextState configured added addedMemory
 always-full zero = refl
 always-full (suc n) = ap (λ (rest : List Outcome). outcome 7 0x100 false ∷ rest) (always-full n)
+
+abbrev top : ℕ
+top = 0xffff_ffff_ffff_ff00
+
+moved-full : (n : ℕ) → adding 0xffff_ffff_ffff_fe00 (entry top 1) 1 (replicate n top) ≡ replicate n (outcome 7 top false)
+unfolding judge le part inside write bytesOf numberOf eventDwords valid entryAt goodEntry okState nextIndex nextTests nextState configured added addedMemory
+moved-full zero = refl
+moved-full (suc n) = ap (λ (rest : List Outcome). outcome 7 top false ∷ rest) (moved-full n)
 
 pub marked : Marked
 unfolding judge le part inside write bytesOf numberOf eventDwords valid bytesAnswered commands.commandOf transfers.transferOf linkOf onward chase entryAt goodEntry okState nextIndex nextTests nextState configured added addedMemory
@@ -140,9 +155,6 @@ marked =
       P4-command = λ trb t. rw t;
       L1 = λ m r l it. L1 m r l it;
       L2 = λ m r l it. L2 m r l it;
-      L1-bytes = refl;
-      L2-bytes = refl;
-      R1 = refl;
-      R2 = always-full;
-      R3 = refl;
+      rings = record { L1 = refl; L2 = refl; R1 = refl; R2 = always-full; R3 = refl };
+      moved = record { L1 = refl; L2 = refl; R1 = refl; R2 = moved-full; R3 = refl };
     }

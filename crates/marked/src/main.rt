@@ -1,4 +1,4 @@
-// Runs the marked cases of document 01 and writes what comes out, then the completion codes by name and number. The file stdout has what
+// Runs the marked cases of document 01, in a window that begins at 0 and in one that begins high, and writes what comes out, then the completion codes by name and number. The file stdout has what
 // the document and xHCI say.
 use codes::CompletionCode;
 use event_ring::EventRing;
@@ -13,6 +13,9 @@ use trb::event::EventTrb;
 use trb::event::PortStatusChangeEventTrbData;
 use trb::event::TransferEventTrbData;
 use trb::transfer::TransferTrbVariant;
+
+// The cases that have addresses are run twice, the second time with all of them moved up by so much.
+const MOVED: u64 = 0xffff_ffff_ffff_fe00;
 
 fn text(t: &[u8]) {
     io::write_all(STDOUT_FILENO, t);
@@ -120,11 +123,17 @@ fn parsers() {
     command(b"P4", trb_of(0, 18));
 }
 
-// A Link at address 0 that points to itself, fresh to a reader with state 1, with these bits in byte 12.
-fn chase(name: &[u8], bits: u8) {
-    let mut mem = trb_of(0, 6);
-    mem[12] = bits;
-    let chase = LinkedRing::new(0, true).next_trb(&mem);
+// Addresses in a window are told from its start.
+fn at(start: u64, offset: u64) -> u64 {
+    std::num::wrapping_add_u64(start, offset)
+}
+
+// A Link at the window's start that points to itself, fresh to a reader with state 1, by the eight bytes behind its pointer.
+fn chase(name: &[u8], start: u64, high: u64) {
+    let mut mem = [0u8; 16];
+    let link = guest::whole(start, high);
+    guest::write_trb(start, &mut mem, start, link);
+    let chase = LinkedRing::new(start, true).next_trb(start, &mem);
     let answer = chase.answer;
     text(name);
     match answer {
@@ -141,15 +150,16 @@ fn chase(name: &[u8], bits: u8) {
 }
 
 // Adds a port's event to the ring and writes what came of it; where it was accepted, what cycle bit stands in the slot.
-fn add(name: &[u8], mem: &mut [u8], ring: EventRing, report: u64) -> EventRing {
+fn add(name: &[u8], start: u64, mem: &mut [u8], ring: EventRing, offset: u64) -> EventRing {
     let change = PortStatusChangeEventTrbData { port_id: 3 };
-    let moved = ring.add(mem, EventTrb::PortStatusChange(change), report);
+    let report = at(start, offset);
+    let moved = ring.add(start, mem, EventTrb::PortStatusChange(change), report);
     text(name);
     hex(b" report 0x", report);
     if moved.refusal != 0 {
         number(b": refusal ", wide(moved.refusal));
     } else {
-        let slot = guest::read_trb(mem, ring.place);
+        let slot = guest::read_trb(start, mem, ring.place);
         let trb = slot.trb;
         hex(b": accepted at 0x", ring.place);
         number(b" with cycle ", trb::cycle_bit(trb) as u64);
@@ -158,49 +168,48 @@ fn add(name: &[u8], mem: &mut [u8], ring: EventRing, report: u64) -> EventRing {
     moved.ring
 }
 
-// A table at address 0 of one entry: base 0x100, of so many slots.
-fn one_segment(slots: u8) -> [u8; 0x120] {
-    let mut mem = [0u8; 0x120];
-    mem[1] = 1;
-    mem[8] = slots;
-    mem
+// An entry of the table: the segment's base and its slots.
+fn entry(start: u64, mem: &mut [u8], offset: u64, base: u64, slots: u64) {
+    let e = guest::whole(at(start, base), slots);
+    guest::write_trb(start, mem, at(start, offset), e);
 }
 
-fn configured(mem: &[u8], entries: u16) -> EventRing {
-    let moved = EventRing::new().configure(mem, 0, entries);
+fn configured(start: u64, mem: &[u8], entries: u16) -> EventRing {
+    let moved = EventRing::new().configure(start, mem, start, entries);
     moved.ring
 }
 
-fn r1() {
-    let mut mem = one_segment(2);
-    let mut ring = configured(&mem, 1);
-    ring = add(b"R1", &mut mem, ring, 0x100);
-    ring = add(b"R1", &mut mem, ring, 0x100);
-    ring = add(b"R1", &mut mem, ring, 0x110);
-    ring = add(b"R1", &mut mem, ring, 0x110);
-    add(b"R1", &mut mem, ring, 0x100);
+// One segment of two slots at 0x100.
+fn r1(name: &[u8], start: u64) {
+    let mut mem = [0u8; 0x120];
+    entry(start, &mut mem, 0, 0x100, 2);
+    let mut ring = configured(start, &mem, 1);
+    ring = add(name, start, &mut mem, ring, 0x100);
+    ring = add(name, start, &mut mem, ring, 0x100);
+    ring = add(name, start, &mut mem, ring, 0x110);
+    ring = add(name, start, &mut mem, ring, 0x110);
+    add(name, start, &mut mem, ring, 0x100);
 }
 
-fn r2() {
-    let mut mem = one_segment(1);
-    let mut ring = configured(&mem, 1);
-    ring = add(b"R2", &mut mem, ring, 0x100);
-    add(b"R2", &mut mem, ring, 0x100);
+// One segment of one slot at 0x100.
+fn r2(name: &[u8], start: u64) {
+    let mut mem = [0u8; 0x120];
+    entry(start, &mut mem, 0, 0x100, 1);
+    let mut ring = configured(start, &mem, 1);
+    ring = add(name, start, &mut mem, ring, 0x100);
+    add(name, start, &mut mem, ring, 0x100);
 }
 
-// Two entries of one slot each, at 0x100 and 0x140.
-fn r3() {
+// Two segments of one slot each, at 0x100 and 0x140.
+fn r3(name: &[u8], start: u64) {
     let mut mem = [0u8; 0x150];
-    mem[1] = 1;
-    mem[8] = 1;
-    mem[16] = 0x40;
-    mem[17] = 1;
-    mem[24] = 1;
-    let mut ring = configured(&mem, 2);
-    ring = add(b"R3", &mut mem, ring, 0x100);
-    ring = add(b"R3", &mut mem, ring, 0x100);
-    ring = add(b"R3", &mut mem, ring, 0x140);
-    add(b"R3", &mut mem, ring, 0x140);
+    entry(start, &mut mem, 0, 0x100, 1);
+    entry(start, &mut mem, 16, 0x140, 1);
+    let mut ring = configured(start, &mem, 2);
+    ring = add(name, start, &mut mem, ring, 0x100);
+    ring = add(name, start, &mut mem, ring, 0x100);
+    ring = add(name, start, &mut mem, ring, 0x140);
+    add(name, start, &mut mem, ring, 0x140);
 }
 
 // The number that a code has in the core, behind its name in xHCI.
@@ -308,11 +317,16 @@ fn last_codes() {
 fn main() {
     events();
     parsers();
-    chase(b"L1", 0x01);
-    chase(b"L2", 0x03);
-    r1();
-    r2();
-    r3();
+    chase(b"L1", 0, 0x1801_0000_0000);
+    chase(b"L2", 0, 0x1803_0000_0000);
+    r1(b"R1", 0);
+    r2(b"R2", 0);
+    r3(b"R3", 0);
+    chase(b"L1 moved", MOVED, 0x1801_0000_0000);
+    chase(b"L2 moved", MOVED, 0x1803_0000_0000);
+    r1(b"R1 moved", MOVED);
+    r2(b"R2 moved", MOVED);
+    r3(b"R3 moved", MOVED);
     first_codes();
     middle_codes();
     last_codes();

@@ -6,6 +6,9 @@ use lomvigast_ffi::memory;
 use lomvigast_ffi::rings;
 use lomvigast_ffi::rings::CEventRing;
 
+// The original's memory begins at 0.
+const START: u64 = 0;
+
 // A memory of zeros and a new event ring.
 pub(crate) fn make(memory: &mut [u8], ring: &mut CEventRing) -> [u64; 16] {
     for i in 0..memory.len() {
@@ -20,7 +23,7 @@ pub(crate) fn poke(given: &[u64; 16], memory: &mut [u8]) -> [u64; 16] {
     let low = swapped(given[2]);
     let high = swapped(given[3]);
     let mut v = [0u64; 16];
-    v[0] = memory::lomvigast_write_trb(memory, given[1], low, high) as u64;
+    v[0] = memory::lomvigast_write_trb(START, memory, given[1], low, high) as u64;
     v
 }
 
@@ -35,7 +38,7 @@ pub(crate) fn linked(letter: u8, given: &[u64; 16], memory: &[u8]) -> [u64; 16] 
         v[1] = ring[1];
         return v;
     }
-    let c = linked::lomvigast_next_trb(memory, &mut ring);
+    let c = linked::lomvigast_next_trb(START, memory, &mut ring);
     v[0] = c.kind % 0x100;
     v[1] = c.kind / 0x100;
     v[2] = c.address;
@@ -63,7 +66,7 @@ fn state(refusal: u8, ring: &CEventRing, sum: u64) -> [u64; 16] {
 
 pub(crate) fn configure(given: &[u64; 16], memory: &[u8], ring: &mut CEventRing) -> [u64; 16] {
     let entries = (given[2] % 0x1_0000) as u16;
-    let refusal = rings::lomvigast_configure(memory, ring, given[1], entries);
+    let refusal = rings::lomvigast_configure(START, memory, ring, given[1], entries);
     state(refusal, ring, 0)
 }
 
@@ -87,6 +90,6 @@ fn checksum(memory: &[u8]) -> u64 {
 
 pub(crate) fn add(given: &[u64; 16], memory: &mut [u8], ring: &mut CEventRing) -> [u64; 16] {
     let event = trbs::event(given);
-    let refusal = rings::lomvigast_add(memory, ring, &event, given[9]);
+    let refusal = rings::lomvigast_add(START, memory, ring, &event, given[9]);
     state(refusal, ring, checksum(memory))
 }

@@ -16,7 +16,7 @@ use Rattle.guest.specs.declared.Dwords.{Dwords}
 use Rattle.guest.specs.declared.TrbAnswer.{TrbAnswer}
 use Rattle.guest.proofs.Tests.{both}
 use Rattle.guest.proofs.Judge.{judge-by}
-use Rattle.guest.proofs.Memory.{Bytes}
+use Rattle.guest.proofs.Bytes.{Bytes}
 use Rattle.guest.proofs.Fields.{Sized, split-sized, split-join, join-split}
 use Rattle.codes.specs.Codes.{numberOf}
 use Rattle.codes.specs.Types as types

@@ -8,9 +8,9 @@ use lib.Dec.{eqb}
 use lib.ListN.{getD}
 use mir.Syntax.{w8}
 use mir.Val.{Fits}
-use Rattle.guest.specs.Memory.{le}
+use Rattle.guest.specs.Bytes.{le}
 use Rattle.guest.specs.Fields.{bits, dword}
-use Rattle.guest.proofs.Memory.{le-lt}
+use Rattle.guest.proofs.Bytes.{le-lt}
 use Rattle.guest.proofs.Fields.{dword-field}
 use Rattle.trb.specs.Trb.{bit}
 

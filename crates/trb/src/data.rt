@@ -4,7 +4,8 @@ use crate::transfer::NormalTrb;
 use guest::refusal;
 ghost use mathlib.Core.Path.{_≡_};
 ghost use Prim.Native.Nat.{_+_};
-ghost use Rattle.trb.specs.Data.{ofNormal, ofDataStage, dataRefusal, dataOf, startOf};
+ghost use Rattle.guest.specs.Memory.{window};
+ghost use Rattle.trb.specs.Data.{ofNormal, ofDataStage, dataRefusal, dataOf, dataOffset};
 
 // What a Normal and a Data Stage TRB say of their data.
 pub struct TrbDmaInfo {
@@ -38,28 +39,27 @@ impl DataStageTrb {
 }
 
 // The number of the refusal, or 0.
-pub fn data_refusal(mem: &[u8], info: TrbDmaInfo) -> u8
-    ensures { λ r. ⌜ r ≡ dataRefusal (now (mem .entry)) info ⌝ }
+pub fn data_refusal(start: u64, mem: &[u8], info: TrbDmaInfo) -> u8
+    ensures { λ r. ⌜ r ≡ dataRefusal (window start (now (mem .entry))) info ⌝ }
 {
     if info.immediate_data {
         return refusal::IMMEDIATE;
     }
     let length = info.transfer_length as u64;
-    if guest::inside(mem, info.data_pointer, length) {
+    if guest::inside(start, mem, info.data_pointer, length) {
         return 0;
     }
     refusal::OUTSIDE
 }
 
-// The part of the memory, empty beside a refusal: its bytes, and the place in memory where it begins.
-pub fn data(mem: &[u8], info: TrbDmaInfo) -> &[u8]
-    ensures { λ r. ⌜ (now r ≡ dataOf (now (mem .entry)) info)
-        × (r .ptr ≡ (mem .entry .ptr .0, startOf (now (mem .entry)) info + mem .entry .ptr .1)) ⌝ }
+// The part of the memory, empty beside a refusal: its bytes, and how far from the window's start it begins.
+pub fn data(start: u64, mem: &[u8], info: TrbDmaInfo) -> &[u8]
+    ensures { λ r. ⌜ (now r ≡ dataOf (window start (now (mem .entry))) info)
+        × (r .ptr ≡ (mem .entry .ptr .0, dataOffset (window start (now (mem .entry))) info + mem .entry .ptr .1)) ⌝ }
 {
-    if data_refusal(mem, info) != 0 {
+    if info.immediate_data {
         return &mem[0..0];
     }
-    let start = info.data_pointer as usize;
-    let end = start + info.transfer_length as usize;
-    &mem[start..end]
+    let length = info.transfer_length as u64;
+    guest::part(start, mem, info.data_pointer, length)
 }

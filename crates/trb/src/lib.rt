@@ -9,7 +9,7 @@ ghost use mathlib.Core.Path.{_≡_};
 ghost use mathlib.Core.Bool.{Bool};
 ghost use Prim.Native.Nat.{_+_, _*_, _/_, _%_, _<_, _≤_};
 ghost use lib.Dec.{eqb};
-ghost use Rattle.guest.specs.Memory.{le};
+ghost use Rattle.guest.specs.Bytes.{le};
 ghost use Rattle.guest.specs.Fields.{bits, dword, field};
 ghost use Rattle.trb.specs.Trb.{typeOf, cycleOf, pointerOf, alignedOf};
 

@@ -1,25 +1,31 @@
 -- The words of a TRB say document 01's values of it, in its order, at the bytes that include/lomvigast.h names; and a refusal's words have
 -- the bytes that were refused. A definition that drops or exchanges fields, and code that follows it, fails here. Assumes nothing.
 use Prim.{tt}
-use mathlib.Core.Path.{_≡_, refl, ap, ap₂, _∙_}
+use mathlib.Core.Path.{_≡_, refl, sym, ap, ap₂, _∙_}
 use mathlib.Core.Bool.{Bool}
 use mathlib.Core.List.{List, [], _∷_}
-use Prim.Native.Nat.{ℕ, _+_, _*_, _/_, _%_, _^_, _<_}
+use Prim.Native.Nat.{ℕ, _+_, _-_, _*_, _/_, _%_, _^_, _<_}
 use native.Mathlib.Omega.{arith}
 use lib.Dec.{eqb}
-use lib.ListN.{getD}
+use lib.ListN.{length, getD}
+use Rattle.guest.specs.Bytes.{part}
+use Rattle.guest.specs.Memory.{Memory}
+use Rattle.guest.proofs.Bytes.{part-length}
 use Rattle.trb.specs.Trb.{bit, when, _or_, oneOf}
 use Rattle.trb.specs.Commands as commands
 use Rattle.trb.specs.Transfers as transfers
 use Rattle.trb.specs.declared.TrbParseError.{TrbParseError}
 use Rattle.trb.specs.declared.command.CommandTrbVariant.{CommandTrbVariant}
 use Rattle.trb.specs.declared.transfer.TransferTrbVariant.{TransferTrbVariant}
+use Rattle.trb.specs.Data.{dataOf}
+use Rattle.trb.specs.declared.data.TrbDmaInfo.{TrbDmaInfo}
 use Rattle.trb.proofs.Pack.{cut}
+use Rattle.trb.proofs.Parts.{given}
 use Rattle.words.proofs.Back.{bytesIn, numbersAt, saidBy, said-by, read, nth, word, bit-lt}
 use Rattle.trb_ffi.specs.Commands as command
 use Rattle.trb.specs.declared.link.LinkOrOther.{LinkOrOther}
 use Rattle.trb_ffi.specs.Transfers as transfer
-use Rattle.trb_ffi.specs.Parts.{flatLink}
+use Rattle.trb_ffi.specs.Parts.{flatLink, partOf}
 use Rattle.trb_ffi.specs.declared.parts.CLink.{CLink}
 
 -- ---- words of two bytes, and of three
@@ -241,3 +247,18 @@ linkIn l =
 pub link-back : (l : LinkOrOther) → linkIn (flatLink l) ≡ l
 link-back (LinkOrOther.Link l) = refl
 link-back LinkOrOther.Other = refl
+
+-- ---- a data part: from the window's start so far on is where the TRB points, and so many bytes from there are the data
+
+pub record PartSaid (m : Memory) (i : TrbDmaInfo) : Type 0 where
+  pub pointer : m .start + partOf m i .offset ≡ i .«data_pointer»
+  pub bytes : part (m .bytes) (partOf m i .offset) (partOf m i .length) ≡ dataOf m i
+
+pub part-said : (m : Memory) (i : TrbDmaInfo) → partOf m i .refusal ≡ 0 → PartSaid m i
+part-said m i z =
+    let g = given m i z in
+    let long : length (dataOf m i) ≡ i .«transfer_length» = ap length (g .bytes) ∙ part-length (i .«transfer_length») (i .«data_pointer» - m .start) (m .bytes) (g .within .fits) in
+    record {
+      pointer = rw (g .offset) (omega (arith, g .within .from));
+      bytes = rw (g .offset, long) (sym (g .bytes));
+    }

@@ -3,7 +3,7 @@ use Prim.Native.Nat.{ℕ}
 use mathlib.Core.Bool.{Bool, true, false}
 use lib.ListN.{length}
 use Rattle.guest.specs.Memory.{Memory}
-use Rattle.trb.specs.Data.{dataRefusal, dataOf, startOf}
+use Rattle.trb.specs.Data.{dataRefusal, dataOf, dataOffset}
 use Rattle.trb.specs.declared.link.LinkOrOther.{LinkOrOther}
 use Rattle.trb.specs.declared.data.TrbDmaInfo.{TrbDmaInfo}
 use Rattle.trb_ffi.specs.declared.parts.CLink.{CLink}
@@ -23,6 +23,6 @@ flatLink LinkOrOther.Other = record { pointer = 0; link = false; cleared = false
 abbrev pub infoOf : ℕ → ℕ → Bool → TrbDmaInfo
 infoOf p n b = record { «data_pointer» = p; «transfer_length» = n; «immediate_data» = b }
 
--- the address and the length of the data; 0s beside a refusal
+-- how far from the window's start the data begins, and its length; 0s beside a refusal
 abbrev pub partOf : Memory → TrbDmaInfo → CPart
-partOf m i = record { start = startOf m i; length = length (dataOf m i); refusal = dataRefusal m i }
+partOf m i = record { offset = dataOffset m i; length = length (dataOf m i); refusal = dataRefusal m i }

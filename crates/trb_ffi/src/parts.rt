@@ -3,6 +3,7 @@ use trb::data::TrbDmaInfo;
 use trb::link::LinkOrOther;
 use trb::link::LinkTrb;
 ghost use mathlib.Core.Path.{_≡_};
+ghost use Rattle.guest.specs.Memory.{window};
 ghost use Rattle.guest.specs.Fields.{wholeOf};
 ghost use Rattle.trb.specs.Trb.{typeOf, cycleOf};
 ghost use Rattle.trb.specs.Links.{linkOf};
@@ -19,10 +20,10 @@ pub struct CLink {
     pub completion: bool,
 }
 
-// The part's first address and its length; or the refusal's number, with 0s.
+// How far from the window's start the part begins, and its length; or the refusal's number, with 0s.
 #[repr(C)]
 pub struct CPart {
-    pub start: u64,
+    pub offset: u64,
     pub length: u32,
     pub refusal: u8,
 }
@@ -71,36 +72,43 @@ pub extern "C" fn lomvigast_parse_link(low: u64, high: u64) -> CLink
 
 #[no_mangle]
 pub extern "C" fn lomvigast_data_refusal(
+    start: u64,
     mem: &[u8],
     pointer: u64,
     length: u32,
     immediate: bool,
 ) -> u8
-    ensures { λ r. ⌜ r ≡ dataRefusal (now (mem .entry)) (infoOf pointer length immediate) ⌝ }
+    ensures { λ r. ⌜ r ≡ dataRefusal (window start (now (mem .entry))) (infoOf pointer length immediate) ⌝ }
 {
     let info = TrbDmaInfo {
         data_pointer: pointer,
         transfer_length: length,
         immediate_data: immediate,
     };
-    trb::data::data_refusal(mem, info)
+    trb::data::data_refusal(start, mem, info)
 }
 
 // The place of the part, since a reference cannot be answered over C.
 #[no_mangle]
-pub extern "C" fn lomvigast_data(mem: &[u8], pointer: u64, length: u32, immediate: bool) -> CPart
-    ensures { λ r. ⌜ r ≡ partOf (now (mem .entry)) (infoOf pointer length immediate) ⌝ }
+pub extern "C" fn lomvigast_data(
+    start: u64,
+    mem: &[u8],
+    pointer: u64,
+    length: u32,
+    immediate: bool,
+) -> CPart
+    ensures { λ r. ⌜ r ≡ partOf (window start (now (mem .entry))) (infoOf pointer length immediate) ⌝ }
 {
-    let refusal = lomvigast_data_refusal(mem, pointer, length, immediate);
+    let refusal = lomvigast_data_refusal(start, mem, pointer, length, immediate);
     if refusal != 0 {
         return CPart {
-            start: 0,
+            offset: 0,
             length: 0,
             refusal,
         };
     }
     CPart {
-        start: pointer,
+        offset: guest::offset(start, mem, pointer, length as u64),
         length,
         refusal: 0,
     }

@@ -9,7 +9,7 @@ use lib.ListN.{getD}
 use Rattle.guest.specs.Judge.{judge}
 use Rattle.guest.specs.Fields.{bytesOf, bytesOfDwords, lowOf, highOf, wholeOf}
 use Rattle.guest.specs.declared.Dwords.{Dwords}
-use Rattle.guest.proofs.Memory.{Bytes}
+use Rattle.guest.proofs.Bytes.{Bytes}
 use Rattle.guest.proofs.Fields.{whole-halves}
 use Rattle.codes.specs.Types as types
 use Rattle.codes.specs.declared.CompletionCode.{CompletionCode}

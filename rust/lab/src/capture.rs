@@ -7,22 +7,21 @@ use crate::lines::{quoted, Words};
 use crate::output::Stop;
 use crate::script::{named, MEMORY_LIMIT};
 use crate::trbs::Kind;
-use crate::world::zeroed;
-use lomvigast::{GuestMemory, GuestMemoryMut};
+use crate::window::Window;
+use lomvigast::GuestMemory;
 use std::collections::HashMap;
 use std::fmt::Display;
 use std::fs::File;
 use std::io::Read;
-use std::ops::Range;
 use std::path::Path;
 
 /// The length of memory where the user names none: 128 MiB.
 pub const LENGTH: usize = 128 << 20;
 
 pub struct Capture {
-    memory: Vec<u8>,
-    /// Where an image begins and ends: the lent bytes before it are 0 because nobody knows them. `None` if all is known.
-    image: Option<Range<u64>>,
+    window: Window,
+    /// Whether that is an image, of which nobody knows what stands outside it. Else it is all of guest memory.
+    image: bool,
     pub rings: Vec<Ring>,
 }
 
@@ -64,36 +63,28 @@ pub enum Start {
 }
 
 impl Capture {
+    /// All of guest memory, from address 0 on, and rings in it.
     pub fn new(memory: Vec<u8>, rings: Vec<Ring>) -> Self {
         Self {
-            memory,
-            image: None,
+            window: memory.into(),
+            image: false,
             rings,
         }
     }
 
     /// The first of these bytes that nobody knows, as the image does not hold it.
     pub fn missing(&self, address: u64, length: u64) -> Option<u64> {
-        let image = self.image.as_ref()?;
-        let end = address.checked_add(length);
-        match () {
-            () if address < image.start || address >= image.end => Some(address),
-            () if end.is_none_or(|end| end > image.end) => Some(image.end),
-            () => None,
-        }
-    }
-
-    pub fn knows(&self, address: u64, length: u64) -> bool {
-        self.missing(address, length).is_none()
+        let lacks = self.window.lacks(address, length);
+        lacks.filter(|_| self.image)
     }
 
     pub fn memory(&self) -> GuestMemory<'_> {
-        GuestMemory::new(&self.memory)
+        self.window.lent()
     }
 
     /// The capture in a folder.
     pub fn of_folder(folder: &Path, length: usize) -> Result<Self, Stop> {
-        let mut memory = zeroed(length).map_err(Stop::Misuse)?;
+        let mut window = Window::zeroed(0, length).map_err(Stop::Misuse)?;
         let mut listed = HashMap::new();
         each_line(&folder.join("trbs.txt"), |words| {
             let address = words.number("ADDRESS")?;
@@ -101,7 +92,7 @@ impl Capture {
             let trb = bytes
                 .try_into()
                 .map_err(|bytes: Vec<u8>| format!("16 bytes, not {}", bytes.len()))?;
-            let written = GuestMemoryMut::new(&mut memory).write_trb(address, &trb);
+            let written = window.lent_mut().write_trb(address, &trb);
             written.map_err(|_| {
                 format!("{address:#x} is beyond the {length} bytes of guest memory (see --length)")
             })?;
@@ -123,24 +114,25 @@ impl Capture {
             let file = folder.join("rings.txt");
             return Err(Stop::Misuse(format!("{} lists no ring", file.display())));
         }
-        Ok(Self::new(memory, rings))
+        Ok(Self {
+            window,
+            image: false,
+            rings,
+        })
     }
 
     /// A raw image that begins at an address.
     pub fn of_image(image: &Path, base: u64, rings: Vec<Ring>) -> Result<Self, Stop> {
-        let bytes = read(image)?;
-        let end = base.saturating_add(bytes.len() as u64);
-        if end > MEMORY_LIMIT as u64 {
-            return Err(Stop::Misuse(format!(
-                "the image would end at {end:#x}, and memory from address 0 to there is above the limit of {MEMORY_LIMIT} bytes"
-            )));
-        }
-        // Below the limit, so both fit.
-        let mut memory = zeroed(end as usize).map_err(Stop::Misuse)?;
-        memory[base as usize..].copy_from_slice(&bytes);
+        Self::of_bytes(read(image)?, base, rings)
+    }
+
+    pub fn of_bytes(image: Vec<u8>, base: u64, rings: Vec<Ring>) -> Result<Self, Stop> {
+        let window = Window::new(base, image);
+        let window = window.map_err(|fault| Stop::Misuse(format!("the image: {fault}")))?;
         Ok(Self {
-            image: Some(base..end),
-            ..Self::new(memory, rings)
+            window,
+            image: true,
+            rings,
         })
     }
 }

@@ -45,8 +45,8 @@ place; what lies before it is its history. TRBs are done, or pending.
   --length BYTES      guest memory from address 0; if left out, 134217728 (128 MiB)
 
 FILE is a raw image of guest memory. What it does not hold is UNKNOWN.
-  --base ADDRESS      the guest address of its first byte, 0 if left out; base and length together
-                      may be up to 1 GiB
+  --base ADDRESS      the guest address of its first byte, 0 if left out; an image may have up to
+                      1 GiB, and end at 2^64 at most
   --ring ADDRESS      a command or transfer ring's first TRB, with ,0 or ,1 after it the cycle
                       state there (if left out, both are followed); once for each ring
   --table ADDRESS     the event ring's segment table,

@@ -17,5 +17,6 @@ mod segments;
 pub mod show;
 pub mod trbs;
 pub mod walk;
+mod window;
 pub mod words;
 pub mod world;

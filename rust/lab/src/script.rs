@@ -1,6 +1,7 @@
 //! A script's commands. A line is read wholly, or refused wholly, before anything of it is done.
 
 use crate::lines::{quoted, Fault, Fields, Words};
+use crate::window::has_addresses;
 use lomvigast::event_ring::RingState;
 use lomvigast::trb::RawTrbBuffer;
 
@@ -12,8 +13,8 @@ pub const PEEK_LIMIT: usize = 4096;
 /// The form of each command, and what it does.
 pub const FORMS: &[(&str, &str)] = &[
     (
-        "memory LENGTH",
-        "new guest memory, all 0, from address 0 on",
+        "memory LENGTH [at START]",
+        "new guest memory, all 0, from address START on, or from 0 on",
     ),
     ("poke ADDRESS HEX", "puts bytes into memory"),
     ("peek ADDRESS LENGTH", "shows bytes of memory"),
@@ -92,7 +93,8 @@ pub enum Command {
 
 #[derive(Debug, Clone, PartialEq)]
 pub enum MemoryCall {
-    New(usize),
+    /// Where it begins, and its length.
+    New(u64, usize),
     Poke(u64, Vec<u8>),
     Peek(u64, usize),
     Inside(u64, u64),
@@ -218,7 +220,7 @@ fn command(name: &str, words: &mut Words<'_>) -> Result<Command, Fault> {
     use MemoryCall as M;
     use ValueCall as V;
     Ok(match name {
-        "memory" => Command::Memory(M::New(limited(words, "LENGTH", MEMORY_LIMIT)?)),
+        "memory" => Command::Memory(new_memory(words)?),
         "poke" => Command::Memory(M::Poke(words.number("ADDRESS")?, words.hex("HEX")?)),
         "peek" => {
             let address = words.number("ADDRESS")?;
@@ -241,6 +243,17 @@ fn command(name: &str, words: &mut Words<'_>) -> Result<Command, Fault> {
         "reader" => Command::Reader(named(words)?, reader_call(words)?),
         _ => Command::Trb(trb_call(name, words)?, source(words)?),
     })
+}
+
+fn new_memory(words: &mut Words<'_>) -> Result<MemoryCall, Fault> {
+    let length = limited(words, "LENGTH", MEMORY_LIMIT)?;
+    let mut start = 0;
+    if words.clone().optional().is_some() {
+        words.exactly("at")?;
+        start = words.number("START")?;
+    }
+    has_addresses(start, length)?;
+    Ok(MemoryCall::New(start, length))
 }
 
 fn trb_call(name: &str, words: &mut Words<'_>) -> Result<TrbCall, Fault> {
@@ -451,6 +464,13 @@ mod tests {
     fn what_cannot_be_read_says_why() {
         assert!(fault("memory 1073741825").contains("limit of 1073741824"));
         assert!(fault("memory 18446744073709551615").contains("limit"));
+        assert!(fault("memory 4 at").contains("START is missing"));
+        assert!(fault("memory 4 at -1").contains("START is \"-1\", which is no number"));
+        assert!(fault("memory 4 at 0x10000000000000000")
+            .contains("START is \"0x10000000000000000\", which is 2^64"));
+        assert!(fault("memory 4 from 8").contains("\"from\" stands where at should"));
+        assert!(fault("memory 4 at 8 9").contains("one word too many"));
+        assert!(fault("memory 17 at 0xfffffffffffffff0").contains("would pass 2^64"));
         assert!(fault("peek 0 4097").contains("limit of 4096"));
         assert!(fault("poke 0 abc").contains("odd"));
         assert!(fault("read_trb 0 0").contains("one word too many"));

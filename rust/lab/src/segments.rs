@@ -29,11 +29,10 @@ impl Segment {
 
     /// The slots from one number up to another, if there are any.
     pub fn part(self, from: u32, to: u32) -> Option<Self> {
-        let part = Self {
-            base: self.slot(from),
-            size: to.saturating_sub(from),
-        };
-        (part.size > 0).then_some(part)
+        let size = to.checked_sub(from).filter(|size| *size > 0)?;
+        // Only then: the address behind the last slot may be 2^64.
+        let base = self.slot(from);
+        Some(Self { base, size })
     }
 
     pub fn length(self) -> u64 {

@@ -147,7 +147,7 @@ impl Shown<'_> {
         let stopped =
             matches!(end.tone(), Tone::GaveUp | Tone::Refused) || matches!(end, Ending::Missing(_));
         let (place, cycle) = self.reading.at;
-        let looked = stopped && !self.reading.parts.is_empty() && self.capture.knows(place, 16);
+        let looked = stopped && !self.reading.parts.is_empty();
         let trb = self.capture.memory().read_trb(place).ok();
         let trb = trb.filter(|_| looked)?;
         match self.ring.start {

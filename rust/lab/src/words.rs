@@ -102,7 +102,7 @@ impl fmt::Display for Answer {
         f.write_str(&match self {
             Self::Refused(refusal, None) => refused(*refusal),
             Self::Refused(refusal, Some(trb)) => refused(*refusal) + "; bytes " + &bytes(trb),
-            Self::Memory(length) => format!("memory: {}, all 0", count(*length, "byte")),
+            Self::Memory(start, length) => memory_words(*start, *length),
             Self::Poked(at, length) => format!("poked: {} at {at:#x}", count(*length, "byte")),
             Self::Part(at, part) => part_words(*at, part),
             Self::Filled(at, length, byte) => filled_words(*at, *length, *byte),
@@ -239,6 +239,14 @@ pub fn wrapped(text: &str, width: usize) -> Vec<String> {
 pub fn bytes(bytes: &[u8]) -> String {
     let hex: Vec<String> = bytes.iter().map(|byte| format!("{byte:02x}")).collect();
     hex.join(" ")
+}
+
+fn memory_words(start: u64, length: usize) -> String {
+    let length = count(length, "byte");
+    match start {
+        0 => format!("memory: {length}, all 0"),
+        _ => format!("memory: {length} from {start:#x} on, all 0"),
+    }
 }
 
 fn part_words(at: u64, part: &[u8]) -> String {

@@ -6,22 +6,23 @@ use crate::script::{
     Command, Event, LinkedCall, MemoryCall, ReaderCall, RingCall, Source, TrbCall, ValueCall,
 };
 use crate::segments::of_table;
+use crate::window::Window;
 use lomvigast::event_ring::{EventReader, EventRing, RingState};
 use lomvigast::linked_ring::{self, LinkedRing, Notes};
 use lomvigast::trb::{
     self, Class, CommandTrbVariant, CompletionCode, EventTrb, LinkTrb, RawTrbBuffer,
     TransferTrbVariant, TrbDmaInfo,
 };
-use lomvigast::{GuestMemory, GuestMemoryMut, Refusal};
+use lomvigast::{GuestMemory, Refusal};
 use std::collections::BTreeMap;
-use std::hint::black_box;
 
 /// What came back from a command. `words` says it in words.
 #[derive(Debug, Clone, PartialEq)]
 pub enum Answer {
     /// A refusal, and the bytes that a parser gives back beside it.
     Refused(Refusal, Option<RawTrbBuffer>),
-    Memory(usize),
+    /// New memory: where it begins, and its length.
+    Memory(u64, usize),
     Poked(u64, usize),
     /// A part of memory: where it begins, and its bytes.
     Part(u64, Vec<u8>),
@@ -99,7 +100,7 @@ impl From<trb::Unrecognized> for Stop {
 
 #[derive(Default)]
 pub struct World {
-    memory: Vec<u8>,
+    window: Window,
     linked: BTreeMap<String, LinkedRing>,
     rings: BTreeMap<String, EventRing>,
     readers: BTreeMap<String, EventReader>,
@@ -126,7 +127,7 @@ impl World {
     }
 
     pub fn memory(&self) -> GuestMemory<'_> {
-        GuestMemory::new(&self.memory)
+        self.window.lent()
     }
 
     /// All event rings by name.
@@ -148,16 +149,18 @@ impl World {
     fn on_memory(&mut self, call: &MemoryCall) -> Result<Answer, Stop> {
         let memory = self.memory();
         Ok(match *call {
-            MemoryCall::New(length) => {
-                self.memory = zeroed(length).map_err(Stop::Fault)?;
-                Answer::Memory(length)
+            MemoryCall::New(start, length) => {
+                self.window = Window::zeroed(start, length).map_err(Stop::Fault)?;
+                Answer::Memory(start, length)
             }
             MemoryCall::Poke(address, ref bytes) => {
-                self.part(address, bytes.len())?.copy_from_slice(bytes);
+                let part = self.window.part_mut(address, bytes.len() as u64)?;
+                part.copy_from_slice(bytes);
                 Answer::Poked(address, bytes.len())
             }
             MemoryCall::Peek(address, length) => {
-                Answer::Part(address, self.part(address, length)?.to_vec())
+                let part = self.window.part(address, length as u64)?;
+                Answer::Part(address, part.to_vec())
             }
             MemoryCall::Inside(address, length) => {
                 Answer::Inside(address, length, memory.inside(address, length))
@@ -167,20 +170,10 @@ impl World {
             MemoryCall::Read8(address) => Answer::Number(memory.read8(address)?),
             MemoryCall::ReadTrb(address) => Answer::Raw(address, memory.read_trb(address)?),
             MemoryCall::WriteTrb(address, trb) => {
-                GuestMemoryMut::new(&mut self.memory).write_trb(address, &trb)?;
+                self.window.lent_mut().write_trb(address, &trb)?;
                 Answer::Written(address)
             }
         })
-    }
-
-    /// A part of memory, or refusal 1.
-    fn part(&mut self, address: u64, length: usize) -> Result<&mut [u8], Refusal> {
-        if !self.memory().inside(address, length as u64) {
-            return Err(Refusal::Outside);
-        }
-        // Inside memory, so both fit.
-        let start = address as usize;
-        Ok(&mut self.memory[start..start + length])
     }
 
     fn on_trb(&mut self, call: TrbCall, source: Source) -> Result<Answer, Stop> {
@@ -215,7 +208,7 @@ impl World {
             }
             TrbCall::DataMut(byte) => {
                 let info = dma_info(trb)?;
-                let mut memory = GuestMemoryMut::new(&mut self.memory);
+                let mut memory = self.window.lent_mut();
                 let part = info.data_mut(&mut memory)?;
                 part.fill(byte);
                 Answer::Filled(info.data_pointer(), part.len(), byte)
@@ -224,7 +217,7 @@ impl World {
     }
 
     fn on_linked(&mut self, name: &str, call: &LinkedCall) -> Result<Answer, Stop> {
-        let memory = GuestMemory::new(&self.memory);
+        let memory = self.window.lent();
         if let LinkedCall::New(place, cycle) = *call {
             let ring = LinkedRing::new(place, cycle);
             self.linked.insert(name.to_owned(), ring.clone());
@@ -257,12 +250,12 @@ impl World {
                 Answer::NotConfigured
             }
             RingCall::Configure(table, entries) => {
-                ring.configure(GuestMemory::new(&self.memory), table, entries)?;
+                ring.configure(self.window.lent(), table, entries)?;
                 Answer::Configured(ring.state())
             }
             RingCall::Add(report, event) => {
                 let RingState { place, cycle, .. } = ring.state();
-                let mut memory = GuestMemoryMut::new(&mut self.memory);
+                let mut memory = self.window.lent_mut();
                 ring.enqueue(&mut memory, &of_fields(event)?, report)?;
                 self.reports.accepted(ring.state().table);
                 return Ok(Answer::Accepted(Accepted {
@@ -305,13 +298,8 @@ impl World {
     fn all_zero(&self, ring: &RingState) -> bool {
         let segments = of_table(self.memory(), ring.table, ring.entries);
         segments.iter().all(|segment| {
-            segment.is_some_and(|segment| {
-                // Inside memory, so both fit.
-                let (start, length) = (segment.base as usize, segment.length() as usize);
-                self.memory[start..start + length]
-                    .iter()
-                    .all(|byte| *byte == 0)
-            })
+            let part = segment.map(|segment| self.window.part(segment.base, segment.length()));
+            matches!(part, Some(Ok(part)) if part.iter().all(|byte| *byte == 0))
         })
     }
 
@@ -333,7 +321,7 @@ impl World {
     }
 
     fn on_reader(&mut self, name: &str, call: &ReaderCall) -> Result<Answer, Stop> {
-        let memory = GuestMemory::new(&self.memory);
+        let memory = self.window.lent();
         let made = match *call {
             ReaderCall::New => Some(EventReader::new()),
             ReaderCall::FromState(state) => Some(EventReader::from(state)),
@@ -376,19 +364,6 @@ impl World {
 pub fn same_table(ring: &RingState, reader: &RingState) -> bool {
     let table = |state: &RingState| (state.table, state.entries);
     ring.ready && reader.ready && table(ring) == table(reader)
-}
-
-/// Memory of zeros, if the machine has so much.
-pub fn zeroed(length: usize) -> Result<Vec<u8>, Fault> {
-    // `vec!`, which is quick, ends the program where there is too little. So this is tried first; the compiler would leave
-    // out a reservation that nobody sees.
-    let mut tried = Vec::<u8>::new();
-    let enough = tried.try_reserve_exact(length).is_ok();
-    drop(black_box(tried));
-    match enough {
-        true => Ok(vec![0; length]),
-        false => Err(format!("this machine has no {length} bytes left")),
-    }
 }
 
 fn on_values(call: ValueCall) -> Result<Answer, Stop> {

@@ -399,6 +399,21 @@ fn a_mark_that_has_no_slot_is_told_of() {
     assert!(svg.contains(RING) && !svg.contains(REPORT) && !svg.contains("\u{25b2}"));
 }
 
+/// Memory that ends at 2^64, and in it a segment that ends there too: 0x40 slots, of which 32 are drawn.
+#[test]
+fn a_segment_that_ends_at_the_last_address() {
+    let script = "memory 0x800 at 0xfffffffffffff800\n\
+        poke 0xfffffffffffff800 00fcffffffffffff 40\n\
+        ring r from_state ready=1 table=0xfffffffffffff800 entries=1 place=0xfffffffffffffff0 remaining=1\n\
+        ring r add 0xfffffffffffffff0 port=1";
+    let svg = drawn(script, true).expect("a picture");
+    assert_eq!(told(&svg), ([31, 1, 0, 0], [32, 0, 0, 0]));
+    let last = "0xfffffffffffffff0: accepted, cycle bit 0";
+    assert_eq!(cells(&svg).last(), Some(&last));
+    // Under the slot stands the end of its address.
+    assert!(svg.contains(">\u{2026}ffffffff0<"));
+}
+
 #[test]
 fn the_words_are_whole_where_slots_are_left_out() {
     let svg = drawn(&ring_of(4096), true).expect("a picture");

@@ -63,13 +63,13 @@ const MISUSES: &[(&[&str], &str)] = &[
         &[
             "show",
             "--memory",
-            "/dev/null",
+            "Cargo.toml",
             "--base",
-            "0x40000001",
+            "0xfffffffffffffff0",
             "--ring",
             "0",
         ],
-        "above the limit",
+        "on would pass 2^64",
     ),
     (
         &["show", "--base", "0", "x"],
@@ -232,6 +232,56 @@ fn a_raw_image_is_shown_from_its_base() {
          from 0x00001000 with cycle state 1\n  \
          0x00001000 No-Op Command: flags C (type 23, cycle 1)\n  \
          UNKNOWN: what stands at 0x0 is not in the image (this is not \"nothing new\"); at 0x1010 stands LINK 0000000000000000 intr 0 type 'Link' flags i:c:t:C; 1 TRB\n"
+    );
+}
+
+#[test]
+fn an_image_may_begin_anywhere() {
+    // Two fresh commands, and behind the image nobody knows; where it ends at 2^64 there is nothing to know.
+    let mut bytes = [0; 32];
+    (bytes[12], bytes[13]) = (1, 23 << 2);
+    (bytes[28], bytes[29]) = (1, 9 << 2);
+    for (base, end) in [
+        (
+            "0x123400000000",
+            "UNKNOWN: what stands at 0x123400000020 is not in the image",
+        ),
+        (
+            "0xffffffffffffffe0",
+            "UNKNOWN: what stands at 0x0 is not in the image",
+        ),
+    ] {
+        let said = shown(
+            "anywhere",
+            &bytes,
+            &["--base", base, "--ring", &format!("{base},1")],
+        );
+        assert!(
+            said.contains(&format!("\n  {base} No-Op Command")),
+            "{said}"
+        );
+        assert!(said.contains(end) && said.contains("; 2 TRBs"), "{said}");
+    }
+}
+
+/// Whatever is asked of it: what lies before the image is not memory that was looked at.
+#[test]
+fn nothing_before_an_image_is_told_as_memory() {
+    // A table with one entry, whose segment lies before the image.
+    let mut table = [0; 0x40];
+    table[8] = 4;
+    let said = shown(
+        "segment_before",
+        &table,
+        &["--base", "0x1000", "--table", "0x1000", "--entries", "1"],
+    );
+    assert!(
+        said.contains("UNKNOWN: what stands at 0x0 is not in the image"),
+        "{said}"
+    );
+    assert!(
+        !said.contains("refused") && !said.contains("0 pending"),
+        "{said}"
     );
 }
 

@@ -38,26 +38,40 @@ impl Random {
     }
 }
 
-const NUMBERS: &[&str] = &[
-    "0",
-    "1",
-    "2",
-    "13",
-    "16",
-    "30",
-    "0x20",
-    "0x40",
-    "0x80",
-    "0x100",
-    "0x110",
-    "0x140",
-    "0x3f0",
-    "255",
-    "0xfffffff0",
-    "0x1000000",
-    "18446744073709551615",
-    "0xfffffffffffffff0",
+const NUMBERS: &[u64] = &[
+    0,
+    1,
+    2,
+    13,
+    16,
+    30,
+    0x20,
+    0x40,
+    0x80,
+    0x100,
+    0x110,
+    0x140,
+    0x3f0,
+    255,
+    0xffff_fff0,
+    0x100_0000,
+    0xffff_ffff_ffff_ffff,
+    0xffff_ffff_ffff_fff0,
 ];
+
+/// Where the memory of a script begins: at 0, high, or so that it ends at 2^64.
+const STARTS: &[u64] = &[0, 0, 0x12_3456_7000, 0xffff_ffff_ffff_fc00];
+
+/// One of the numbers, or an address so far from `start`; in decimal or hex digits.
+fn number(random: &mut Random, start: u64) -> String {
+    let number = random.pick(NUMBERS);
+    let moved = random.pick(&[0, start, start]).wrapping_add(number);
+    match random.one_in(2) {
+        true => format!("{moved:#x}"),
+        false => moved.to_string(),
+    }
+}
+
 const UNREADABLE: &[&str] = &[
     "",
     "x",
@@ -75,11 +89,12 @@ fn hex(bytes: &[u8]) -> String {
     bytes.iter().map(|byte| format!("{byte:02x}")).collect()
 }
 
-/// A TRB of any type, often a Link, with a pointer that is often inside memory.
-fn trb(random: &mut Random) -> [u8; 16] {
+/// A TRB of any type, often a Link, with a pointer that is often inside memory, which begins at `start`.
+fn trb(random: &mut Random, start: u64) -> [u8; 16] {
     let mut trb = [0; 16];
-    trb[0] = random.pick(&[0, 0, 0x10, 0x40, 0x80, 0x08, 0x47]);
-    trb[1] = random.pick(&[0, 0, 1, 3, 4]);
+    let low = random.pick(&[0, 0, 0x10, 0x40, 0x80, 0x08, 0x47]);
+    let high = random.pick(&[0, 0, 0x100, 0x300, 0x400]);
+    trb[..8].copy_from_slice(&start.wrapping_add(low + high).to_le_bytes());
     trb[8] = random.pick(&[0, 1, 64]);
     trb[11] = random.pick(&[0, 1, 13, 30, 200]);
     trb[12] = random.next() as u8;
@@ -93,12 +108,11 @@ fn trb(random: &mut Random) -> [u8; 16] {
 }
 
 fn event(random: &mut Random) -> String {
-    let number = |random: &mut Random| random.pick(NUMBERS);
     match random.below(4) {
         0 => format!("port={}", random.below(256)),
         1 => format!(
             "command pointer={} parameter={}",
-            number(random),
+            number(random, 0),
             random.below(1 << 25)
         ),
         2 => format!(
@@ -106,35 +120,49 @@ fn event(random: &mut Random) -> String {
             random.below(1 << 25),
             random.below(256)
         ),
-        _ => format!("transfer pointer={} slot=3 flag=1 code=1", number(random)),
+        _ => format!(
+            "transfer pointer={} slot=3 flag=1 code=1",
+            number(random, 0)
+        ),
     }
 }
 
-/// A command in one of the known forms.
-fn line(random: &mut Random) -> String {
+/// One of the known forms, with what stands in brackets or without it.
+fn form(random: &mut Random) -> String {
     let (form, _) = random.pick(FORMS);
+    match form.split_once(" [") {
+        Some((form, _)) if random.one_in(4) => form.to_owned(),
+        _ => form.replace(['[', ']'], ""),
+    }
+}
+
+/// A command on memory that begins at `start`.
+fn line(random: &mut Random, start: u64) -> String {
+    let form = form(random);
     let mut words = Vec::new();
     for word in form.split(' ') {
-        let number = random.pick(NUMBERS).to_owned();
+        let number = number(random, start);
         words.push(match word {
             _ if random.one_in(2000) => random.pick(UNREADABLE).to_owned(),
             "LENGTH" => random
                 .pick(&["0", "1", "16", "0x400", "0x400", "1000"])
                 .to_owned(),
-            "HEX" if form.starts_with("write_trb") => hex(&trb(random)),
+            "START" => format!("{start:#x}"),
+            "HEX" if form.starts_with("write_trb") => hex(&trb(random, start)),
             "HEX" => {
                 let length = 1 + random.below(20);
                 hex(&random.bytes(length))
             }
             "BYTE" => random.below(256).to_string(),
             "TRB" if random.one_in(2) => format!("at {number}"),
-            "TRB" => hex(&trb(random)),
+            "TRB" => hex(&trb(random, start)),
             "CYCLE" => random.below(2).to_string(),
             "EVENT" => event(random),
             "NAME" => random.pick(&["a", "b"]).to_owned(),
-            "TABLE" => random
-                .pick(&["0", "0", "0", "0x40", "0x20", "0x400"])
-                .to_owned(),
+            "TABLE" => {
+                let from_start = random.pick(&[0, 0, 0, 0x40, 0x20, 0x400]);
+                start.wrapping_add(from_start).to_string()
+            }
             "ENTRIES" => random.pick(&["1", "2", "2", "3", "0", "17"]).to_owned(),
             "FIELDS" => format!(
                 "ready=1 place={number} entries=2 remaining={} cycle=1",
@@ -149,15 +177,18 @@ fn line(random: &mut Random) -> String {
 
 /// Memory with a table of two segments, and all names made; then random commands.
 fn script(random: &mut Random, lines: u64) -> String {
-    let mut script =
-        "memory 0x400\npoke 0 0001000000000000 02000000 00000000 4001000000000000 03000000\n"
-            .to_owned();
+    let start = random.pick(STARTS);
+    let [first, second] = [0x100, 0x140].map(|base| hex(&u64::to_le_bytes(start + base)));
+    let mut script = format!(
+        "memory 0x400 at {start}\npoke {start} {first} 02000000 00000000 {second} 03000000\n"
+    );
     for name in ["a", "b"] {
-        script += &format!("linked {name} new 0x40 1\nring {name} new\nreader {name} new\n");
-        script += &format!("ring {name} configure 0 2\nreader {name} configure 0 2\n");
+        let place = start + 0x40;
+        script += &format!("linked {name} new {place} 1\nring {name} new\nreader {name} new\n");
+        script += &format!("ring {name} configure {start} 2\nreader {name} configure {start} 2\n");
     }
     for _ in 0..lines {
-        script += &line(random);
+        script += &line(random, start);
         script.push('\n');
     }
     script
@@ -272,33 +303,45 @@ fn hold_to_its_beginning(shown: &str) {
     }
 }
 
+/// Random TRBs as memory, with rings in it and outside. Memory that begins above 0 is an image.
+fn capture(random: &mut Random) -> Capture {
+    let base = random.pick(STARTS);
+    let mut memory = Vec::new();
+    for _ in 0..random.below(64) {
+        memory.extend(trb(random, base));
+    }
+    memory.truncate(memory.len() - memory.len().min(random.below(20) as usize));
+    let at = |from_base| base.wrapping_add(from_base);
+    let starts = [
+        Start::Linked(at(random.below(1 << 11)), Some(random.one_in(2))),
+        Start::Linked(random.next(), None),
+        Start::Table(at(64 * random.below(16)), random.below(4) as u16),
+        Start::Table(random.next(), random.next() as u16),
+    ];
+    let kinds = [Kind::Command, Kind::Transfer, Kind::Event, Kind::Any];
+    let places = [0x40, 0x13, u64::MAX - 15].map(|place| Some(at(place)));
+    let ring = |start| Ring {
+        kind: random.pick(&kinds),
+        name: "\"\n".to_owned(),
+        start,
+        driver: random.one_in(2).then(|| Driver {
+            dequeue: at(random.pick(&[0, 0x10, 0x40, 0x100, u64::MAX])),
+            enqueue: random.pick(&[None, places[0], places[1], places[2]]),
+            cycle: random.one_in(2),
+        }),
+    };
+    let rings = starts.map(ring).into();
+    match base {
+        0 => Capture::new(memory, rings),
+        _ => Capture::of_bytes(memory, base, rings).expect("it ends at 2^64 at most"),
+    }
+}
+
 #[test]
 fn random_memory_as_captures() {
     let mut random = Random(5);
     for _ in 0..2000 {
-        let mut memory = Vec::new();
-        for _ in 0..random.below(80) {
-            memory.extend(trb(&mut random));
-        }
-        memory.truncate(memory.len() - memory.len().min(random.below(20) as usize));
-        let starts = [
-            Start::Linked(random.below(1 << 11), Some(random.one_in(2))),
-            Start::Linked(random.next(), None),
-            Start::Table(64 * random.below(16), random.below(4) as u16),
-            Start::Table(random.next(), random.next() as u16),
-        ];
-        let kinds = [Kind::Command, Kind::Transfer, Kind::Event, Kind::Any];
-        let mut ring = |start| Ring {
-            kind: random.pick(&kinds),
-            name: "\"\n".to_owned(),
-            start,
-            driver: random.one_in(2).then(|| Driver {
-                dequeue: random.pick(&[0, 0x10, 0x40, 0x100, u64::MAX]),
-                enqueue: random.pick(&[None, Some(0x40), Some(0x13), Some(0xffff_ffff_ffff_fff0)]),
-                cycle: random.one_in(2),
-            }),
-        };
-        let capture = Capture::new(memory, starts.map(&mut ring).into());
+        let capture = capture(&mut random);
         let mut out = Vec::new();
         for (json, most) in [(false, 1000), (true, 1000), (true, 3), (false, 0)] {
             fine(show(&capture, json, most, &mut Output::plain(&mut out)));

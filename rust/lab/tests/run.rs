@@ -229,3 +229,72 @@ fn json_has_the_number_by_its_name() {
          {\"line\":3,\"answer\":\"done\",\"words\":\"memory: 4 bytes, all 0\"}\n"
     );
 }
+
+/// A ring whose segment ends where memory does, its reader, a Link to its first slot, and a part of memory; all addresses are
+/// counted from `start`.
+fn script_at(start: u64) -> String {
+    let at = |offset: u64| format!("{:#x}", start + offset);
+    let bytes = |offset: u64| format!("{:016x}", (start + offset).swap_bytes());
+    [
+        format!("memory 0x100 at {start}"),
+        format!("poke {} {} 04000000", at(0), bytes(0xc0)),
+        format!("ring r new\nring r configure {} 1", at(0)),
+        format!("reader d new\nreader d configure {} 1", at(0)),
+        format!("ring r add {} port=1\n", at(0xc0)).repeat(4),
+        "reader d take\n".repeat(4),
+        format!("ring r add {} port=2\nreader d take", at(0xf0)),
+        format!("write_trb {} {} 00000000 01180000", at(0x40), bytes(0xc0)),
+        format!("linked l new {} 1\nlinked l next_trb", at(0x40)),
+        format!(
+            "linked l set_place {} 1\nlinked l advance\nlinked l next_trb",
+            at(0xf0)
+        ),
+        format!("data_mut 7 {} 02000000 00040000", bytes(0xfe)),
+        format!("peek {} 2\npeek {} 3", at(0xfe), at(0xfe)),
+    ]
+    .join("\n")
+}
+
+/// An answer whose addresses are told from `start` on.
+fn from(start: u64, answer: &str) -> String {
+    const ENDS: [char; 4] = [' ', ',', ':', ';'];
+    let moved = |piece: &str| {
+        let word = piece.trim_end_matches(ENDS);
+        // A byte has a 0 before its one digit, an address none.
+        let digits = word.strip_prefix("0x").filter(|word| *word != "07");
+        match digits.and_then(|digits| u64::from_str_radix(digits, 16).ok()) {
+            Some(address) => {
+                let end = &piece[word.len()..];
+                format!("{:#x}{end}", address.wrapping_sub(start))
+            }
+            None => piece.to_owned(),
+        }
+    };
+    answer.split_inclusive(ENDS).map(moved).collect()
+}
+
+#[test]
+fn memory_that_begins_elsewhere_moves_the_answers() {
+    let (at_zero, ended) = answers(&script_at(0));
+    assert_eq!(ended, Ok(()));
+    for (beginning, times) in [
+        ("accepted at 0xc0", 1),
+        ("refused 7", 1),
+        ("none: the slot at 0xf0 is stale", 1),
+        ("accepted at 0xf0", 1),
+        ("TRB at 0xc0: Port Status Change Event (34)", 1),
+        ("place 0x100, cycle state 1", 1),
+        ("refused 1", 2),
+        ("2 bytes at 0xfe: 07 07", 1),
+    ] {
+        let like = |answer: &&String| answer.starts_with(beginning);
+        assert_eq!(at_zero.iter().filter(like).count(), times, "{beginning}");
+    }
+    for start in [0x40, 0x12_3456_7000, 0xffff_ffff_ffff_ff00] {
+        let (answers, ended) = answers(&script_at(start));
+        assert_eq!(ended, Ok(()));
+        let moved: Vec<String> = answers.iter().map(|answer| from(start, answer)).collect();
+        // The first says where memory begins.
+        assert_eq!(moved[1..], at_zero[1..]);
+    }
+}

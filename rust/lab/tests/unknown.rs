@@ -423,6 +423,14 @@ fn memory_that_an_image_does_not_hold() {
         let told = reading(&image("before", &[0; 16], 0x40, unsaid(place, Some(false))));
         assert_eq!((told.trbs(), told.end), (0, Ending::Missing(place)));
     }
+    // One that begins in an image which ends at 2^64: no memory whatever would do.
+    let told = reading(&image(
+        "last",
+        &[0; 16],
+        u64::MAX - 15,
+        unsaid(u64::MAX - 7, Some(true)),
+    ));
+    assert_eq!((told.trbs(), told.end.tone()), (0, Tone::Refused));
     let told = reading(&image("inside", &[0; 16], 0x40, unsaid(0x40, Some(true))));
     assert_eq!(told.end.tone(), Tone::Nothing);
 }

@@ -67,7 +67,13 @@ impl EventRing {
         base_address: u64,
         erst_size: u16,
     ) -> Result<(), Refusal> {
-        let number = ffi::configure(memory.bytes, &mut self.state, base_address, erst_size);
+        let number = ffi::configure(
+            memory.start,
+            memory.bytes,
+            &mut self.state,
+            base_address,
+            erst_size,
+        );
         Refusal::check(number, 0)
     }
 
@@ -88,7 +94,13 @@ impl EventRing {
         trb: &EventTrb,
         dequeue_pointer: u64,
     ) -> Result<(), Refusal> {
-        let number = ffi::add(memory.bytes, &mut self.state, trb, dequeue_pointer);
+        let number = ffi::add(
+            memory.start,
+            memory.bytes,
+            &mut self.state,
+            trb,
+            dequeue_pointer,
+        );
         Refusal::check(number, 0)
     }
 
@@ -148,7 +160,13 @@ impl EventReader {
         base_address: u64,
         erst_size: u16,
     ) -> Result<(), Refusal> {
-        let number = ffi::configure_reader(memory.bytes, &mut self.state, base_address, erst_size);
+        let number = ffi::configure_reader(
+            memory.start,
+            memory.bytes,
+            &mut self.state,
+            base_address,
+            erst_size,
+        );
         Refusal::check(number, 0)
     }
 
@@ -161,7 +179,7 @@ impl EventReader {
     /// this order; the reader is then as it was.
     #[inline]
     pub fn take(&mut self, memory: GuestMemory<'_>) -> Result<Option<RawTrbBuffer>, Refusal> {
-        match ffi::take(memory.bytes, &mut self.state) {
+        match ffi::take(memory.start, memory.bytes, &mut self.state) {
             Ok(event) => Ok(Some(event)),
             Err(ffi::NOTHING) => Ok(None),
             Err(number) => Err(Refusal::of(number, 0)),

@@ -54,11 +54,11 @@ pub struct CLink {
     pub completion: bool,
 }
 
-/// The part's first address and its length; or the refusal's number, with 0s.
+/// How far from the window's first byte the part begins, and its length; or the refusal's number, with 0s.
 #[repr(C)]
 #[derive(Debug, Clone, Copy, PartialEq, Eq)]
 pub struct CPart {
-    pub start: u64,
+    pub offset: u64,
     pub length: u32,
     pub refusal: u8,
 }
@@ -115,8 +115,14 @@ mod raw {
         pub safe fn lomvigast_code_of(byte: u8) -> CCoded;
         pub safe fn lomvigast_class_of(byte: u8) -> Class;
 
-        pub fn lomvigast_next_trb(mem: *const u8, len: usize, ring: &mut LinkedState) -> Chase;
+        pub fn lomvigast_next_trb(
+            start: u64,
+            mem: *const u8,
+            len: usize,
+            ring: &mut LinkedState,
+        ) -> Chase;
         pub fn lomvigast_configure(
+            start: u64,
             mem: *const u8,
             len: usize,
             ring: &mut State,
@@ -124,6 +130,7 @@ mod raw {
             entries: u16,
         ) -> u8;
         pub fn lomvigast_configure_reader(
+            start: u64,
             mem: *const u8,
             len: usize,
             reader: &mut State,
@@ -131,6 +138,7 @@ mod raw {
             entries: u16,
         ) -> u8;
         pub fn lomvigast_add(
+            start: u64,
             mem: *mut u8,
             len: usize,
             ring: &mut State,
@@ -138,29 +146,39 @@ mod raw {
             report: u64,
         ) -> u8;
         pub fn lomvigast_take(
+            start: u64,
             mem: *const u8,
             len: usize,
             reader: &mut State,
             out: &mut MaybeUninit<CTrb>,
         ) -> u8;
         pub fn lomvigast_data(
+            start: u64,
             mem: *const u8,
             len: usize,
             pointer: u64,
             length: u32,
             immediate: bool,
         ) -> CPart;
-        pub fn lomvigast_inside(mem: *const u8, len: usize, address: u64, length: u64) -> bool;
-        pub fn lomvigast_read2(mem: *const u8, len: usize, address: u64) -> CNumber;
-        pub fn lomvigast_read4(mem: *const u8, len: usize, address: u64) -> CNumber;
-        pub fn lomvigast_read8(mem: *const u8, len: usize, address: u64) -> CNumber;
+        pub fn lomvigast_inside(
+            start: u64,
+            mem: *const u8,
+            len: usize,
+            address: u64,
+            length: u64,
+        ) -> bool;
+        pub fn lomvigast_read2(start: u64, mem: *const u8, len: usize, address: u64) -> CNumber;
+        pub fn lomvigast_read4(start: u64, mem: *const u8, len: usize, address: u64) -> CNumber;
+        pub fn lomvigast_read8(start: u64, mem: *const u8, len: usize, address: u64) -> CNumber;
         pub fn lomvigast_read_trb(
+            start: u64,
             mem: *const u8,
             len: usize,
             address: u64,
             out: &mut MaybeUninit<CTrb>,
         ) -> u8;
         pub fn lomvigast_write_trb(
+            start: u64,
             mem: *mut u8,
             len: usize,
             address: u64,
@@ -239,14 +257,14 @@ fn refuse(answer: &mut Result<EventTrb, Unrecognized>, trb: CTrb, refused: u16) 
     });
 }
 
-/// A function that reads lent memory.
+/// A function that reads lent memory, whose first byte has the address `start`.
 macro_rules! reads {
     ($($name:ident = $export:ident($($argument:ident: $kind:ty),*) -> $answer:ty;)*) => {
         $(#[inline]
-        pub fn $name(mem: &[u8], $($argument: $kind),*) -> $answer {
+        pub fn $name(start: u64, mem: &[u8], $($argument: $kind),*) -> $answer {
             // SAFETY: pointer and length are those of one slice, which lives through the call; the export reads no other
             // byte of memory, writes to what it is lent to be changed alone, and keeps no reference.
-            unsafe { raw::$export(mem.as_ptr(), mem.len(), $($argument),*) }
+            unsafe { raw::$export(start, mem.as_ptr(), mem.len(), $($argument),*) }
         })*
     };
 }
@@ -264,11 +282,11 @@ reads! {
 
 /// The TRB's bytes, or a refusal's number.
 #[inline]
-pub fn read_trb(mem: &[u8], address: u64) -> Result<RawTrbBuffer, u8> {
+pub fn read_trb(start: u64, mem: &[u8], address: u64) -> Result<RawTrbBuffer, u8> {
     let mut out = MaybeUninit::uninit();
     // SAFETY: as for `reads!`; where it answers 0 the export has written both halves.
     unsafe {
-        match raw::lomvigast_read_trb(mem.as_ptr(), mem.len(), address, &mut out) {
+        match raw::lomvigast_read_trb(start, mem.as_ptr(), mem.len(), address, &mut out) {
             0 => Ok(out.assume_init().into()),
             refusal => Err(refusal),
         }
@@ -277,11 +295,11 @@ pub fn read_trb(mem: &[u8], address: u64) -> Result<RawTrbBuffer, u8> {
 
 /// The event's bytes, or [`NOTHING`], or a refusal's number.
 #[inline]
-pub fn take(mem: &[u8], reader: &mut State) -> Result<RawTrbBuffer, u8> {
+pub fn take(start: u64, mem: &[u8], reader: &mut State) -> Result<RawTrbBuffer, u8> {
     let mut out = MaybeUninit::uninit();
     // SAFETY: as for `read_trb`.
     unsafe {
-        match raw::lomvigast_take(mem.as_ptr(), mem.len(), reader, &mut out) {
+        match raw::lomvigast_take(start, mem.as_ptr(), mem.len(), reader, &mut out) {
             0 => Ok(out.assume_init().into()),
             other => Err(other),
         }
@@ -289,15 +307,15 @@ pub fn take(mem: &[u8], reader: &mut State) -> Result<RawTrbBuffer, u8> {
 }
 
 #[inline]
-pub fn add(mem: &mut [u8], ring: &mut State, event: &EventTrb, report: u64) -> u8 {
+pub fn add(start: u64, mem: &mut [u8], ring: &mut State, event: &EventTrb, report: u64) -> u8 {
     // SAFETY: pointer and length are those of one slice that nobody else can reach during the call; the export touches no
     // other byte of memory, writes to it and to the ring alone, and keeps no reference.
-    unsafe { raw::lomvigast_add(mem.as_mut_ptr(), mem.len(), ring, event, report) }
+    unsafe { raw::lomvigast_add(start, mem.as_mut_ptr(), mem.len(), ring, event, report) }
 }
 
 #[inline]
-pub fn write_trb(mem: &mut [u8], address: u64, trb: &RawTrbBuffer) -> u8 {
+pub fn write_trb(start: u64, mem: &mut [u8], address: u64, trb: &RawTrbBuffer) -> u8 {
     let CTrb { low, high } = trb.into();
     // SAFETY: as for `add`.
-    unsafe { raw::lomvigast_write_trb(mem.as_mut_ptr(), mem.len(), address, low, high) }
+    unsafe { raw::lomvigast_write_trb(start, mem.as_mut_ptr(), mem.len(), address, low, high) }
 }

@@ -55,7 +55,7 @@ impl LinkedRing {
     /// of the entry.
     #[inline]
     pub fn next_trb(&mut self, memory: GuestMemory<'_>) -> Chase {
-        ffi::next_trb(memory.bytes, &mut self.state)
+        ffi::next_trb(memory.start, memory.bytes, &mut self.state)
     }
 
     /// Goes on by one TRB, modulo 2^64.

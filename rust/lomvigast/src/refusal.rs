@@ -27,7 +27,7 @@ pub enum Refusal {
     TableEntries = 3,
     /// 4: the ring was never configured, or was reset, or its state breaks its own limits.
     State = 4,
-    /// 5: a segment entry has a base that is no multiple of 64, a size of 0 or above 4096, or an end beyond memory.
+    /// 5: a segment entry has a base that is no multiple of 64, a size of 0 or above 4096, or slots that are not all inside memory.
     Segment = 5,
     /// 6: the reported place is not a multiple of 16.
     Report = 6,

@@ -112,11 +112,11 @@ static void l1_l2(void)
     uint8_t mem[16] = {[12] = 1, 6 << 2};
     struct lomvigast_linked_ring ring;
     lomvigast_set_place(&ring, 0, true);
-    struct lomvigast_chase chase = lomvigast_next_trb(mem, sizeof mem, &ring);
+    struct lomvigast_chase chase = lomvigast_next_trb(0, mem, sizeof mem, &ring);
     CHECK(chase.answer == LOMVIGAST_TOO_MANY_LINKS && chase.links == 256);
     CHECK(ring.place == 0 && ring.cycle == 1);
     mem[12] = 3;
-    chase = lomvigast_next_trb(mem, sizeof mem, &ring);
+    chase = lomvigast_next_trb(0, mem, sizeof mem, &ring);
     CHECK(chase.answer == LOMVIGAST_NOTHING_NEW && chase.links == 1);
     CHECK(ring.place == 0 && ring.cycle == 0);
 }
@@ -129,14 +129,14 @@ static struct lomvigast_event_ring configured(uint8_t mem[0x200], uint8_t first,
     mem[1] = 1, mem[8] = first;
     mem[16] = 0x40, mem[17] = 1, mem[24] = second;
     lomvigast_reset(&ring);
-    CHECK(lomvigast_configure(mem, 0x200, &ring, 0, second ? 2 : 1) == 0);
+    CHECK(lomvigast_configure(0, mem, 0x200, &ring, 0, second ? 2 : 1) == 0);
     return ring;
 }
 
 static uint8_t add(uint8_t mem[0x200], struct lomvigast_event_ring *ring, uint64_t report)
 {
     union lomvigast_event event = port(3);
-    return lomvigast_add(mem, 0x200, ring, &event, report);
+    return lomvigast_add(0, mem, 0x200, ring, &event, report);
 }
 
 static void r1_r2_r3(void)
@@ -255,26 +255,26 @@ static void chases(void)
     uint8_t mem[0x30] = {0x28, [12] = 0x21, 6 << 2, [0x20] = 1, 2, 3, 4, 5, 6, 7, 8, 9, 10, 11, 12, 1, 4, 15, 16};
     struct lomvigast_linked_ring ring;
     lomvigast_set_place(&ring, 0, true);
-    struct lomvigast_chase chase = lomvigast_next_trb(mem, sizeof mem, &ring);
+    struct lomvigast_chase chase = lomvigast_next_trb(0, mem, sizeof mem, &ring);
     CHECK(chase.answer == LOMVIGAST_TRB && chase.address == 0x20 && same(chase.trb, mem + 0x20));
     CHECK(chase.links == 1 && chase.cleared && chase.completion);
     CHECK(ring.place == 0x20 && ring.cycle == 1);
     mem[12] = 1;
     ring.place = 0;
-    chase = lomvigast_next_trb(mem, sizeof mem, &ring);
+    chase = lomvigast_next_trb(0, mem, sizeof mem, &ring);
     CHECK(chase.links == 1 && chase.cleared && !chase.completion);
     mem[0] = 0x20, mem[12] = 0x21;
     ring.place = 0;
-    chase = lomvigast_next_trb(mem, sizeof mem, &ring);
+    chase = lomvigast_next_trb(0, mem, sizeof mem, &ring);
     CHECK(chase.links == 1 && !chase.cleared && chase.completion && ring.place == 0x20);
     lomvigast_advance(&ring);
     CHECK(ring.place == 0x30 && ring.cycle == 1);
-    chase = lomvigast_next_trb(mem, sizeof mem, &ring);
+    chase = lomvigast_next_trb(0, mem, sizeof mem, &ring);
     CHECK(chase.answer == LOMVIGAST_REFUSED && chase.refused.number == LOMVIGAST_OUTSIDE);
     CHECK(chase.links == 0 && chase.address == 0 && chase.trb.low == 0 && chase.trb.high == 0);
     CHECK(ring.place == 0x30 && ring.cycle == 1);
     ring.place = UINT64_MAX;
-    chase = lomvigast_next_trb(mem, sizeof mem, &ring);
+    chase = lomvigast_next_trb(0, mem, sizeof mem, &ring);
     CHECK(chase.answer == LOMVIGAST_REFUSED && ring.place == UINT64_MAX);
     ring.place = 0xfffffffffffffff0;
     lomvigast_advance(&ring);
@@ -285,21 +285,23 @@ static void memory(void)
 {
     uint8_t mem[32] = {1, 2, 3, 4, 5, 6, 7, 8, 9, 10, 11, 12, 13, 14, 15, 16};
     struct lomvigast_trb trb = {7, 8};
-    CHECK(lomvigast_inside(mem, 32, 31, 1) && !lomvigast_inside(mem, 32, 31, 2) && !lomvigast_inside(mem, 32, UINT64_MAX, 2));
-    CHECK(lomvigast_read2(mem, 32, 0).value == 0x0201 && lomvigast_read2(mem, 32, 0).refusal == 0);
-    CHECK(lomvigast_read4(mem, 32, 1).value == 0x05040302);
-    CHECK(lomvigast_read8(mem, 32, 0).value == 0x0807060504030201);
-    CHECK(lomvigast_read8(mem, 32, 25).refusal == LOMVIGAST_OUTSIDE && lomvigast_read8(mem, 32, 25).value == 0);
-    CHECK(lomvigast_read_trb(mem, 32, 17, &trb) == LOMVIGAST_OUTSIDE && trb.low == 7 && trb.high == 8);
-    CHECK(lomvigast_read_trb(mem, 32, 0, &trb) == 0 && same(trb, mem));
-    CHECK(lomvigast_write_trb(mem, 32, 17, trb.low, trb.high) == LOMVIGAST_OUTSIDE && mem[31] == 0);
-    CHECK(lomvigast_write_trb(mem, 32, 16, trb.low, trb.high) == 0 && memcmp(mem, mem + 16, 16) == 0);
-    struct lomvigast_part part = lomvigast_data(mem, 32, 2, 30, false);
-    CHECK(part.start == 2 && part.length == 30 && part.refusal == 0);
-    part = lomvigast_data(mem, 32, 2, 31, false);
-    CHECK(part.start == 0 && part.length == 0 && part.refusal == LOMVIGAST_OUTSIDE);
-    CHECK(lomvigast_data(mem, 32, 2, 31, true).refusal == LOMVIGAST_IMMEDIATE);
-    CHECK(lomvigast_data_refusal(mem, 32, 2, 31, false) == LOMVIGAST_OUTSIDE && lomvigast_data_refusal(mem, 32, 2, 30, false) == 0);
+    CHECK(lomvigast_inside(0, mem, 32, 31, 1) && !lomvigast_inside(0, mem, 32, 31, 2));
+    CHECK(!lomvigast_inside(0, mem, 32, UINT64_MAX, 2));
+    CHECK(lomvigast_read2(0, mem, 32, 0).value == 0x0201 && lomvigast_read2(0, mem, 32, 0).refusal == 0);
+    CHECK(lomvigast_read4(0, mem, 32, 1).value == 0x05040302);
+    CHECK(lomvigast_read8(0, mem, 32, 0).value == 0x0807060504030201);
+    CHECK(lomvigast_read8(0, mem, 32, 25).refusal == LOMVIGAST_OUTSIDE && lomvigast_read8(0, mem, 32, 25).value == 0);
+    CHECK(lomvigast_read_trb(0, mem, 32, 17, &trb) == LOMVIGAST_OUTSIDE && trb.low == 7 && trb.high == 8);
+    CHECK(lomvigast_read_trb(0, mem, 32, 0, &trb) == 0 && same(trb, mem));
+    CHECK(lomvigast_write_trb(0, mem, 32, 17, trb.low, trb.high) == LOMVIGAST_OUTSIDE && mem[31] == 0);
+    CHECK(lomvigast_write_trb(0, mem, 32, 16, trb.low, trb.high) == 0 && memcmp(mem, mem + 16, 16) == 0);
+    struct lomvigast_part part = lomvigast_data(0, mem, 32, 2, 30, false);
+    CHECK(part.offset == 2 && part.length == 30 && part.refusal == 0);
+    part = lomvigast_data(0, mem, 32, 2, 31, false);
+    CHECK(part.offset == 0 && part.length == 0 && part.refusal == LOMVIGAST_OUTSIDE);
+    CHECK(lomvigast_data(0, mem, 32, 2, 31, true).refusal == LOMVIGAST_IMMEDIATE);
+    CHECK(lomvigast_data_refusal(0, mem, 32, 2, 31, false) == LOMVIGAST_OUTSIDE);
+    CHECK(lomvigast_data_refusal(0, mem, 32, 2, 30, false) == 0);
 }
 
 static void small_answers(void)
@@ -322,17 +324,99 @@ static void readers(void)
     struct lomvigast_event_ring ring = configured(mem, 2, 1), reader;
     struct lomvigast_trb trb = {7, 8};
     lomvigast_reset(&reader);
-    CHECK(lomvigast_take(mem, sizeof mem, &reader, &trb) == LOMVIGAST_STATE);
-    CHECK(lomvigast_configure_reader(mem, sizeof mem, &reader, 1, 1) == LOMVIGAST_TABLE_BASE);
-    CHECK(lomvigast_configure_reader(mem, sizeof mem, &reader, 0, 17) == LOMVIGAST_TABLE_ENTRIES);
-    CHECK(lomvigast_configure_reader(mem, sizeof mem, &reader, 0x200, 1) == LOMVIGAST_OUTSIDE);
-    CHECK(lomvigast_configure_reader(mem, sizeof mem, &reader, 0, 2) == 0 && memcmp(&ring, &reader, sizeof ring) == 0);
-    CHECK(lomvigast_take(mem, sizeof mem, &reader, &trb) == LOMVIGAST_NOTHING && trb.low == 7 && trb.high == 8);
+    CHECK(lomvigast_take(0, mem, sizeof mem, &reader, &trb) == LOMVIGAST_STATE);
+    CHECK(lomvigast_configure_reader(0, mem, sizeof mem, &reader, 1, 1) == LOMVIGAST_TABLE_BASE);
+    CHECK(lomvigast_configure_reader(0, mem, sizeof mem, &reader, 0, 17) == LOMVIGAST_TABLE_ENTRIES);
+    CHECK(lomvigast_configure_reader(0, mem, sizeof mem, &reader, 0x200, 1) == LOMVIGAST_OUTSIDE);
+    CHECK(lomvigast_configure_reader(0, mem, sizeof mem, &reader, 0, 2) == 0 && memcmp(&ring, &reader, sizeof ring) == 0);
+    CHECK(lomvigast_take(0, mem, sizeof mem, &reader, &trb) == LOMVIGAST_NOTHING && trb.low == 7 && trb.high == 8);
     for (int n = 0; n < 6; n++) {
         CHECK(add(mem, &ring, reader.place) == 0);
         uint64_t slot = reader.place;
-        CHECK(lomvigast_take(mem, sizeof mem, &reader, &trb) == 0 && same(trb, mem + slot));
+        CHECK(lomvigast_take(0, mem, sizeof mem, &reader, &trb) == 0 && same(trb, mem + slot));
         CHECK(memcmp(&ring, &reader, sizeof ring) == 0);
+    }
+}
+
+/* ---- A window of 0x200 bytes that begins at `start` */
+
+static void window_read_and_written(uint64_t start)
+{
+    uint8_t mem[0x200] = {1, 2, 3, 4, 5, 6, 7, 8, 9, 10, 11, 12, 13, 14, 15, 16};
+    struct lomvigast_trb trb = {7, 8};
+    CHECK(lomvigast_inside(start, mem, sizeof mem, start, 0x200) && !lomvigast_inside(start, mem, sizeof mem, start, 0x201));
+    CHECK(!lomvigast_inside(start, mem, sizeof mem, start - 1, 1) && !lomvigast_inside(start, mem, sizeof mem, 0, 1));
+    CHECK(lomvigast_read2(start, mem, sizeof mem, start + 1).value == 0x0302);
+    CHECK(lomvigast_read4(start, mem, sizeof mem, start + 1).value == 0x05040302);
+    CHECK(lomvigast_read8(start, mem, sizeof mem, start + 1).value == 0x0908070605040302);
+    CHECK(lomvigast_read8(start, mem, sizeof mem, 1).refusal == LOMVIGAST_OUTSIDE);
+    CHECK(lomvigast_read_trb(start, mem, sizeof mem, start - 16, &trb) == LOMVIGAST_OUTSIDE && trb.low == 7 && trb.high == 8);
+    CHECK(lomvigast_read_trb(start, mem, sizeof mem, start, &trb) == 0 && same(trb, mem));
+    CHECK(lomvigast_write_trb(start, mem, sizeof mem, start + 0x1f1, trb.low, trb.high) == LOMVIGAST_OUTSIDE);
+    CHECK(mem[0x1ff] == 0 && lomvigast_write_trb(start, mem, sizeof mem, start + 0x1f0, trb.low, trb.high) == 0);
+    CHECK(memcmp(mem, mem + 0x1f0, 16) == 0);
+    struct lomvigast_part part = lomvigast_data(start, mem, sizeof mem, start + 2, 0x1fe, false);
+    CHECK(part.offset == 2 && part.length == 0x1fe && part.refusal == 0);
+    part = lomvigast_data(start, mem, sizeof mem, start - 1, 0, false);
+    CHECK(part.offset == 0 && part.length == 0 && part.refusal == LOMVIGAST_OUTSIDE);
+    CHECK(lomvigast_data_refusal(start, mem, sizeof mem, start + 2, 0x1ff, false) == LOMVIGAST_OUTSIDE);
+    /* The empty part at the end: where the end is 2^64 it has no address. */
+    CHECK(lomvigast_data_refusal(start, mem, sizeof mem, start + 0x200, 0, false) == (start + 0x200 == 0 ? LOMVIGAST_OUTSIDE : 0));
+}
+
+static void window_walked(uint64_t start)
+{
+    uint8_t mem[0x200] = {[12] = 1, 6 << 2};
+    uint64_t last = start + 0x1f0;
+    memcpy(mem, &last, sizeof last);
+    mem[0x1fc] = 1;
+    struct lomvigast_linked_ring ring = {start, 1};
+    struct lomvigast_chase chase = lomvigast_next_trb(start, mem, sizeof mem, &ring);
+    CHECK(chase.answer == LOMVIGAST_TRB && chase.address == last && same(chase.trb, mem + 0x1f0) && ring.place == last);
+    lomvigast_advance(&ring);
+    CHECK(ring.place == start + 0x200);
+    chase = lomvigast_next_trb(start, mem, sizeof mem, &ring);
+    CHECK(chase.answer == LOMVIGAST_REFUSED && chase.refused.number == LOMVIGAST_OUTSIDE);
+    last = start - 16;
+    memcpy(mem, &last, sizeof last);
+    ring.place = start;
+    chase = lomvigast_next_trb(start, mem, sizeof mem, &ring);
+    CHECK(chase.answer == LOMVIGAST_REFUSED && ring.place == start);
+}
+
+/* The segment is the window's last four slots. */
+static void window_filled(uint64_t start)
+{
+    uint8_t mem[0x200] = {[8] = 4};
+    uint64_t base = start + 0x1c0;
+    struct lomvigast_event_ring ring, reader;
+    union lomvigast_event event = port(3);
+    struct lomvigast_trb trb;
+    memcpy(mem, &base, sizeof base);
+    CHECK(lomvigast_configure(start, mem, sizeof mem, &ring, start - 64, 1) == LOMVIGAST_OUTSIDE);
+    CHECK(lomvigast_configure(start, mem, sizeof mem, &ring, start, 1) == 0 && ring.place == base && ring.remaining == 4);
+    CHECK(lomvigast_configure_reader(start, mem, sizeof mem, &reader, start, 1) == 0);
+    CHECK(lomvigast_take(start, mem, sizeof mem, &reader, &trb) == LOMVIGAST_NOTHING);
+    for (int n = 0; n < 9; n++) {
+        size_t slot = 0x1c0 + 16 * (n % 4);
+        CHECK(lomvigast_add(start, mem, sizeof mem, &ring, &event, reader.place) == 0);
+        CHECK(lomvigast_take(start, mem, sizeof mem, &reader, &trb) == 0 && same(trb, mem + slot));
+    }
+    mem[8] = 5;
+    CHECK(lomvigast_configure(start, mem, sizeof mem, &ring, start, 1) == LOMVIGAST_SEGMENT);
+    mem[8] = 4, base = start - 64;
+    memcpy(mem, &base, sizeof base);
+    CHECK(lomvigast_configure(start, mem, sizeof mem, &ring, start, 1) == LOMVIGAST_SEGMENT);
+}
+
+static void windows(void)
+{
+    /* One that begins high, and one that ends at 2^64. */
+    static const uint64_t starts[] = {0x123456000, -(uint64_t)0x200};
+    for (size_t n = 0; n < sizeof starts / sizeof *starts; n++) {
+        window_read_and_written(starts[n]);
+        window_walked(starts[n]);
+        window_filled(starts[n]);
     }
 }
 
@@ -356,7 +440,7 @@ static void hostile_states(void)
             if (fits)
                 continue;
             CHECK(add(mem, &state, 0x100) == LOMVIGAST_STATE && memcmp(&state, &given, sizeof state) == 0);
-            CHECK(lomvigast_take(mem, sizeof mem, &state, &trb) == LOMVIGAST_STATE);
+            CHECK(lomvigast_take(0, mem, sizeof mem, &state, &trb) == LOMVIGAST_STATE);
             CHECK(memcmp(&state, &given, sizeof state) == 0 && trb.low == 7 && trb.high == 8);
         }
     }
@@ -376,6 +460,7 @@ int main(void)
     memory();
     small_answers();
     readers();
+    windows();
     hostile_states();
     return failures != 0;
 }

@@ -75,80 +75,108 @@ fn p1_p2_p4() {
     );
 }
 
+/// Where the guest's memory begins, each case's addresses with it: as document 01 has it, above all that 32 bits can say, and so
+/// that 0x200 bytes end at 2^64.
+const STARTS: [u64; 3] = [0, 0x1_0000_0040, u64::MAX - 0x1ff];
+
 #[test]
 fn l1_l2() {
-    let mut ring = LinkedRing::new(0, true);
-    let chase = ring.next_trb(GuestMemory::new(&trb(6, &[(12, 1)])));
-    assert_eq!(
-        (chase.answer, chase.notes.links),
-        (Answer::TooManyLinks, 256)
-    );
-    let chase = ring.next_trb(GuestMemory::new(&trb(6, &[(12, 3)])));
-    assert_eq!((chase.answer, chase.notes.links), (Answer::NothingNew, 1));
-    assert_eq!(ring.get_dequeue_pointer(), (0, false));
-}
-
-/// Memory with a table at 0, given as base and size of each entry, and a ring configured on it.
-fn configured(entries: &[(u8, u8)]) -> Result<([u8; 0x200], EventRing), Refusal> {
-    let mut bytes = [0; 0x200];
-    for (n, (base, size)) in entries.iter().enumerate() {
-        // Each base is above 0x100 by so much.
-        bytes[16 * n..][..9].copy_from_slice(&[*base, 1, 0, 0, 0, 0, 0, 0, *size]);
+    for start in STARTS {
+        let mut link = trb(6, &[(12, 1)]);
+        link[..8].copy_from_slice(&start.to_le_bytes());
+        let mut ring = LinkedRing::new(start, true);
+        let chase = ring.next_trb(GuestMemory::at(start, &link));
+        assert_eq!(
+            (chase.answer, chase.notes.links),
+            (Answer::TooManyLinks, 256)
+        );
+        link[12] = 3;
+        let chase = ring.next_trb(GuestMemory::at(start, &link));
+        assert_eq!((chase.answer, chase.notes.links), (Answer::NothingNew, 1));
+        assert_eq!(ring.get_dequeue_pointer(), (start, false));
     }
-    let mut ring = EventRing::new();
-    ring.configure(GuestMemory::new(&bytes), 0, entries.len() as u16)?;
-    Ok((bytes, ring))
 }
 
-fn add(ring: &mut EventRing, bytes: &mut [u8], report: u64) -> Result<u64, Refusal> {
-    let place = ring.state().place;
-    let event = EventTrb::new_port_status_change_event_trb(3);
-    ring.enqueue(&mut GuestMemoryMut::new(bytes), &event, report)?;
-    Ok(place)
+/// A ring in its guest's memory. Addresses are told from where that begins.
+struct Guest {
+    start: u64,
+    bytes: [u8; 0x200],
+    ring: EventRing,
+}
+
+impl Guest {
+    /// With a table at its first address, given as base and size of each entry, and the ring configured on it.
+    fn new(start: u64, entries: &[(u64, u8)]) -> Result<Self, Refusal> {
+        let mut bytes = [0; 0x200];
+        for (n, (base, size)) in entries.iter().enumerate() {
+            bytes[16 * n..][..8].copy_from_slice(&(start + base).to_le_bytes());
+            bytes[16 * n + 8] = *size;
+        }
+        let mut ring = EventRing::new();
+        let memory = GuestMemory::at(start, &bytes);
+        ring.configure(memory, start, entries.len() as u16)?;
+        Ok(Self { start, bytes, ring })
+    }
+
+    /// Where the event was written.
+    fn add(&mut self, report: u64) -> Result<u64, Refusal> {
+        let place = self.ring.state().place;
+        let event = EventTrb::new_port_status_change_event_trb(3);
+        let mut memory = GuestMemoryMut::at(self.start, &mut self.bytes);
+        self.ring
+            .enqueue(&mut memory, &event, self.start + report)?;
+        Ok(place - self.start)
+    }
 }
 
 #[test]
 fn r1() -> Result<(), Refusal> {
-    let (mut bytes, mut ring) = configured(&[(0, 2)])?;
-    assert_eq!(add(&mut ring, &mut bytes, 0x100), Ok(0x100));
-    assert_eq!(add(&mut ring, &mut bytes, 0x100), Err(Refusal::Full));
-    assert_eq!(add(&mut ring, &mut bytes, 0x110), Ok(0x110));
-    assert_eq!(add(&mut ring, &mut bytes, 0x110), Err(Refusal::Full));
-    assert_eq!(add(&mut ring, &mut bytes, 0x100), Ok(0x100));
-    assert_eq!((bytes[0x10c], bytes[0x11c]), (0, 1));
+    for start in STARTS {
+        let mut guest = Guest::new(start, &[(0x100, 2)])?;
+        assert_eq!(guest.add(0x100), Ok(0x100));
+        assert_eq!(guest.add(0x100), Err(Refusal::Full));
+        assert_eq!(guest.add(0x110), Ok(0x110));
+        assert_eq!(guest.add(0x110), Err(Refusal::Full));
+        assert_eq!(guest.add(0x100), Ok(0x100));
+        assert_eq!((guest.bytes[0x10c], guest.bytes[0x11c]), (0, 1));
+    }
     Ok(())
 }
 
 #[test]
 fn r2() -> Result<(), Refusal> {
-    let (mut bytes, mut ring) = configured(&[(0, 1)])?;
-    for _ in 0..3 {
-        assert_eq!(add(&mut ring, &mut bytes, 0x100), Err(Refusal::Full));
+    for start in STARTS {
+        let mut guest = Guest::new(start, &[(0x100, 1)])?;
+        for _ in 0..3 {
+            assert_eq!(guest.add(0x100), Err(Refusal::Full));
+        }
     }
     Ok(())
 }
 
 #[test]
 fn r3() -> Result<(), Refusal> {
-    let (mut bytes, mut ring) = configured(&[(0, 1), (0x40, 1)])?;
-    assert_eq!(add(&mut ring, &mut bytes, 0x100), Ok(0x100));
-    assert_eq!(add(&mut ring, &mut bytes, 0x100), Err(Refusal::Full));
-    assert_eq!(add(&mut ring, &mut bytes, 0x140), Ok(0x140));
+    for start in STARTS {
+        let mut guest = Guest::new(start, &[(0x100, 1), (0x140, 1)])?;
+        assert_eq!(guest.add(0x100), Ok(0x100));
+        assert_eq!(guest.add(0x100), Err(Refusal::Full));
+        assert_eq!(guest.add(0x140), Ok(0x140));
+    }
     Ok(())
 }
 
 #[test]
 fn a_refusal_changes_nothing() -> Result<(), Refusal> {
-    let (mut bytes, mut ring) = configured(&[(0, 2)])?;
-    let (before, state) = (bytes, ring.state());
-    assert_eq!(add(&mut ring, &mut bytes, 0x110), Err(Refusal::Full));
-    assert_eq!(add(&mut ring, &mut bytes, 8), Err(Refusal::Report));
-    assert_eq!((bytes, ring.state()), (before, state));
-    let mut reader = EventReader::from(state);
-    assert_eq!(
-        reader.take(GuestMemory::new(&bytes[..0x10f])),
-        Err(Refusal::Outside)
-    );
-    assert_eq!(reader.state(), state);
+    for start in STARTS {
+        let mut guest = Guest::new(start, &[(0x100, 2)])?;
+        let (before, state) = (guest.bytes, guest.ring.state());
+        assert_eq!(guest.add(0x110), Err(Refusal::Full));
+        assert_eq!(guest.add(8), Err(Refusal::Report));
+        assert_eq!((guest.bytes, guest.ring.state()), (before, state));
+        let mut reader = EventReader::from(state);
+        let memory = GuestMemory::at(start, &guest.bytes[..0x10f]);
+        assert_eq!(reader.take(memory), Err(Refusal::Outside));
+        assert_eq!(reader.state(), state);
+    }
     Ok(())
 }

@@ -6,10 +6,12 @@ use lomvigast::trb::{CompletionCode, EventTrb};
 /// A segment table and its segments.
 #[derive(Debug, Clone)]
 pub struct Table {
+    /// Where the memory begins that holds it; it is made at 0 and then moved.
+    pub start: u64,
     pub base: u64,
     /// Base and size of each segment.
     pub segments: Vec<(u64, u32)>,
-    /// The memory that holds it.
+    /// How long that memory is.
     pub length: usize,
 }
 
@@ -35,6 +37,7 @@ impl Table {
         let mut put = |n: &usize| segments[*n].0 = place(sizes[*n].into());
         rest.iter().for_each(&mut put);
         Self {
+            start: 0,
             base,
             segments,
             length: next as usize,
@@ -53,6 +56,7 @@ impl Table {
     /// A table somewhere in a memory of 32 times 64 bytes, with up to six segments anywhere beside it.
     pub fn anywhere(random: &mut Random) -> Self {
         let mut table = Self {
+            start: 0,
             base: 64 * random.below(31),
             segments: vec![(0, 0); random.between(1, 6) as usize],
             length: 64 * 32,
@@ -73,6 +77,18 @@ impl Table {
                     break (base, size as u32);
                 }
             };
+        }
+    }
+
+    /// The same table where memory begins at another address, and all its addresses with it.
+    pub fn moved_to(&self, start: u64) -> Self {
+        let moved = |address: u64| address - self.start + start;
+        let segments = self.segments.iter();
+        Self {
+            start,
+            base: moved(self.base),
+            segments: segments.map(|(base, size)| (moved(*base), *size)).collect(),
+            length: self.length,
         }
     }
 
@@ -100,7 +116,7 @@ impl Table {
 
     pub fn write(&self, bytes: &mut [u8]) {
         for (n, (base, size)) in self.segments.iter().enumerate() {
-            let entry = &mut bytes[self.base as usize + 16 * n..][..16];
+            let entry = &mut bytes[(self.base - self.start) as usize + 16 * n..][..16];
             entry[..8].copy_from_slice(&base.to_le_bytes());
             entry[8..12].copy_from_slice(&size.to_le_bytes());
         }
@@ -113,6 +129,17 @@ impl Table {
             (0..u64::from(*size)).map(move |n| base + 16 * n)
         };
         self.segments.iter().flat_map(slots).collect()
+    }
+}
+
+/// An address at which so many bytes can begin: a multiple of 64, low, high, or so that they end at 2^64 or just before.
+pub fn any_start(random: &mut Random, length: usize) -> u64 {
+    let last = u64::MAX - (length as u64).next_multiple_of(64) + 1;
+    match random.below(4) {
+        0 => 64 * random.between(1, 5),
+        1 => random.below(last) & !63,
+        2 => last - 64,
+        _ => last,
     }
 }
 

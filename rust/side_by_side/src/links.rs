@@ -37,18 +37,31 @@ pub fn other(mark: u8, cycle: bool) -> [u8; 16] {
     ]
 }
 
-/// Any TRB, mostly a Link to one of so many slots, now and then to just behind them.
+/// Any TRB, mostly a Link to one of so many slots, now and then to just behind them or just before.
 pub fn any(random: &mut Random, slots: u64) -> [u8; 16] {
     let mut trb = random.trb();
     if !random.once_in(4) {
         let far = u64::from(random.once_in(40));
+        let before = 16 * u64::from(random.once_in(40));
         let bits = random.below(16) * u64::from(random.once_in(3));
-        let pointer = 16 * random.below(slots + far) + bits;
+        let pointer = (16 * random.below(slots + far) + bits).wrapping_sub(before);
         trb[..8].copy_from_slice(&pointer.to_le_bytes());
         trb[13] = LINK << 2 | trb[13] & 3;
         trb[12] &= !TOGGLE | (TOGGLE * u8::from(random.once_in(4)));
     }
     trb
+}
+
+/// The same slots in memory that begins so much higher: the pointer of each Link goes with them.
+pub fn move_by(bytes: &mut [u8], amount: u64) {
+    for slot in bytes.chunks_exact_mut(16) {
+        if slot[13] >> 2 == LINK {
+            let (pointer, _) = slot.split_first_chunk_mut().expect("eight bytes");
+            *pointer = u64::from_le_bytes(*pointer)
+                .wrapping_add(amount)
+                .to_le_bytes();
+        }
+    }
 }
 
 /// A memory with a chain of Links, each fresh when it is come to, and where the chain begins.

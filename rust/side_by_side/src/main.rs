@@ -1,5 +1,5 @@
 //! Runs the original and the port on the same inputs and holds everything beside each other; then the port's ring and reader
-//! beside a plain list; then all of its rings beside document 01's words.
+//! beside a plain list; then its memory and all of its rings beside the words of document 01 and R-5.
 
 // Some of what they can do only the comparison asks for.
 #![cfg_attr(not(at_hand), allow(dead_code))]
@@ -76,7 +76,7 @@ mod compare {
 struct Counts {
     original: Vec<Tally>,
     list: Tally,
-    document: [Beside; 4],
+    document: Vec<Beside>,
 }
 
 impl Counts {
@@ -128,8 +128,8 @@ impl Counts {
     }
 }
 
-/// Rounds that every run has: with what is exhaustive some 77 million comparisons, four million beside the list, and nearly three
-/// beside document 01.
+/// Rounds that every run has: with what is exhaustive some 82 million comparisons, four million beside the list, and seven beside
+/// document 01, half of them in windows that begin above 0.
 const ROUNDS: u32 = 40;
 
 /// So many seconds pass between two lines that tell how far a run is.

@@ -1,6 +1,6 @@
 //! Demand 3 as it runs: the port's ring and reader in any order of adding, taking and reporting, beside a plain list.
 
-use crate::inputs::{any_event, Table};
+use crate::inputs::{any_event, any_start, Table};
 use crate::random::Random;
 use crate::tally::Tally;
 use lomvigast::event_ring::{EventReader, EventRing};
@@ -46,6 +46,9 @@ pub fn fits(event: &EventTrb) -> bool {
     }
 }
 
+/// Bytes behind the segments. Where these end at 2^64 they have no address.
+const BEHIND: usize = 64;
+
 /// A ring and its reader in one memory.
 struct World {
     table: Table,
@@ -57,11 +60,11 @@ struct World {
 }
 
 impl World {
-    /// Configured on a table whose segments are zero; the bytes behind them are anybody's.
+    /// Configured on a table whose segments are zero; the bytes behind them are anybody's. Memory begins where the table says.
     fn new(table: Table) -> Result<Self, Refusal> {
-        let mut bytes = vec![0; table.length + 64];
+        let mut bytes = vec![0; table.length + BEHIND];
         table.write(&mut bytes);
-        let memory = GuestMemory::new(&bytes);
+        let memory = GuestMemory::at(table.start, &bytes);
         let (mut ring, mut reader) = (EventRing::new(), EventReader::new());
         ring.configure(memory, table.base, table.entries())?;
         reader.configure(memory, table.base, table.entries())?;
@@ -92,14 +95,15 @@ impl World {
     }
 
     fn add(&mut self, tally: &mut Tally, event: EventTrb) {
-        let mut memory = GuestMemoryMut::new(&mut self.bytes);
+        let mut memory = GuestMemoryMut::at(self.table.start, &mut self.bytes);
         let answer = self.ring.enqueue(&mut memory, &event, self.report);
         tally.hold(&(&self.table, event), self.list.add(event), answer);
     }
 
     /// What is taken is held as an event, and not as bytes.
     fn take(&mut self, tally: &mut Tally) {
-        let taken = self.reader.take(GuestMemory::new(&self.bytes));
+        let memory = GuestMemory::at(self.table.start, &self.bytes);
+        let taken = self.reader.take(memory);
         let event = taken.map(|bytes| bytes.map(EventTrb::parse));
         tally.hold(&self.table, Ok(self.list.take().map(Ok)), event);
     }
@@ -110,7 +114,7 @@ impl World {
     }
 
     fn change_outside(&mut self, random: &mut Random) {
-        let at = self.table.length + random.below(64) as usize;
+        let at = self.table.length + random.below(BEHIND as u64) as usize;
         self.bytes[at] = random.byte();
     }
 
@@ -127,7 +131,11 @@ pub fn any(random: &mut Random, worlds: u64, steps: u64) -> Tally {
     let mut tally = Tally::new("ring and reader beside a list");
     for _ in 0..worlds {
         let (most, longest) = random.pick(&[(3, 3), (16, 4), (2, 40)]);
-        let table = Table::any(random, most, longest);
+        let mut table = Table::any(random, most, longest);
+        if random.once_in(2) {
+            tally.among("tables in windows that begin above 0");
+            table = table.moved_to(any_start(random, table.length));
+        }
         let eager = random.below(6);
         table.kinds().into_iter().for_each(|kind| tally.among(kind));
         match World::new(table.clone()) {

@@ -1,6 +1,6 @@
 -- Two numbers of four bytes, by `le-add`. Assumes nothing.
 use native.Mathlib.Omega.{arith}
-use Rattle.guest.proofs.Memory.{le-add}
+use Rattle.guest.proofs.Bytes.{le-add}
 use borrow.Author.Needs.{needs}
 use Rattle.guest.proofs.eight.Statement.{statement}
 use Rattle.guest.proofs.eight.Tie as tie

@@ -1,6 +1,6 @@
 -- Two numbers of two bytes, by `le-add`. Assumes nothing.
 use native.Mathlib.Omega.{arith}
-use Rattle.guest.proofs.Memory.{le-add}
+use Rattle.guest.proofs.Bytes.{le-add}
 use borrow.Author.Needs.{needs}
 use Rattle.guest.proofs.four.Statement.{statement}
 use Rattle.guest.proofs.four.Tie as tie

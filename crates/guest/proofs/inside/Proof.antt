@@ -1,7 +1,8 @@
--- The code takes `length` off the memory's length first, so that no sum passes 2 ^ 64. Assumes nothing.
+-- By the three facts. Assumes nothing.
 use mathlib.Core.Path.{sym}
 use native.Mathlib.Omega.{arith}
-use Rattle.guest.proofs.Memory.{inside-yes, inside-no}
+use borrow.Author.Needs.{needs}
+use Rattle.guest.proofs.Memory.{Within, inside-no, inside-none, inside-last}
 use Rattle.guest.proofs.inside.Statement.{statement}
 use Rattle.guest.proofs.inside.Tie as tie
 
@@ -9,6 +10,11 @@ pub inside-spec : {M : Type 1} → statement M
 inside-spec =
     tie.close
     (tie.spec
-    (λ c. let a = c .before .args in sym (inside-no (a .mem .now) (a .address) (a .length) (omega arith)))
-    (λ c. let a = c .before .before .args in sym (inside-no (a .mem .now) (a .address) (a .length) (omega arith)))
-    (λ c. let a = c .before .before .args in sym (inside-yes (a .mem .now) (a .address) (a .length) (omega arith) (omega arith))))
+    (λ c. sym (inside-no _ _ _ (λ w. omega (arith, w .from))))
+    (λ c. inside-none _ _ _ (omega arith) (omega arith) (omega arith))
+    (λ c. search needs)
+    (λ c. search needs)
+    (λ c. sym (inside-no _ _ _ (λ w. omega (arith, w .below))))
+    (λ c. search needs)
+    (λ c. search needs)
+    (λ c. inside-last _ _ _ (omega arith) (omega arith) (omega arith)))

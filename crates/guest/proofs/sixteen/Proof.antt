@@ -1,6 +1,6 @@
 -- The kit's copy of a part that has sixteen bytes. Assumes nothing.
 use mathlib.Core.Path.{refl, _∙_}
-use Rattle.guest.proofs.Memory.{loaded}
+use Rattle.guest.proofs.Bytes.{loaded}
 use borrow.Author.Needs.{needs}
 use Rattle.guest.proofs.sixteen.Statement.{statement}
 use Rattle.guest.proofs.sixteen.Tie as tie

@@ -1,5 +1,5 @@
 -- The kit's copy into a part that has sixteen bytes. Assumes nothing.
-use Rattle.guest.proofs.Memory.{stored}
+use Rattle.guest.proofs.Bytes.{stored}
 use borrow.Author.Needs.{needs}
 use Rattle.guest.proofs.store.Statement.{statement}
 use Rattle.guest.proofs.store.Tie as tie

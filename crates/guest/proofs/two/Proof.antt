@@ -1,6 +1,6 @@
 -- The two bytes that `le` adds up. Assumes nothing.
 use native.Mathlib.Omega.{arith}
-use Rattle.guest.specs.Memory.{le}
+use Rattle.guest.specs.Bytes.{le}
 use borrow.Author.Needs.{needs}
 use Rattle.guest.proofs.two.Statement.{statement}
 use Rattle.guest.proofs.two.Tie as tie

@@ -1,6 +1,6 @@
 -- The number of two bytes, written out. Assumes nothing.
 use native.Mathlib.Omega.{arith}
-use Rattle.guest.specs.Memory.{le}
+use Rattle.guest.specs.Bytes.{le}
 use borrow.Author.Needs.{needs}
 use Rattle.trb.proofs.two.Statement.{statement}
 use Rattle.trb.proofs.two.Tie as tie

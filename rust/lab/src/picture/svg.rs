@@ -22,7 +22,7 @@ const COLUMNS: u32 = 16;
 const FEWEST: u32 = 9;
 
 // Sizes in SVG's units.
-const LABEL: u32 = 130;
+const LABEL: u32 = 140;
 const CELL: u32 = 62;
 const BOX: u32 = 44;
 const LINE: u32 = 118;
@@ -217,7 +217,7 @@ impl Scene<'_> {
             left + width - 5,
             top + 29,
         );
-        svg += &label(middle, y + 75, "#555", &format!("{slot:#x}"));
+        svg += &label(middle, y + 75, "#555", &end_of(slot));
         if present {
             svg += &label(middle, y + 13, "#a00", "\u{25bc} ring");
         }
@@ -314,6 +314,16 @@ fn label(x: u32, y: u32, colour: &str, text: &str) -> String {
     format!(
         "<text x=\"{x}\" y=\"{y}\"{small} text-anchor=\"middle\" fill=\"{colour}\">{text}</text>"
     )
+}
+
+/// A slot's address, or as much of its end as fits under the slot, whose title has it whole.
+fn end_of(address: u64) -> String {
+    const FITS: usize = 10;
+    let digits = format!("{address:#x}");
+    match digits.len() > FITS {
+        true => format!("\u{2026}{}", &digits[digits.len() - FITS + 1..]),
+        false => digits,
+    }
 }
 
 /// A name that fits under a slot. The words above the slots have it whole.

@@ -121,7 +121,7 @@ impl Track {
             Command::Ring(name, call) => self.on_ring(name, call, step),
             Command::Reader(name, ReaderCall::Take) => self.on_take(name, step),
             // Other memory, all 0: what the slots held is gone.
-            Command::Memory(MemoryCall::New(_)) => {
+            Command::Memory(MemoryCall::New(..)) => {
                 self.rings.values_mut().for_each(|ring| ring.uses.clear());
             }
             _ => {}

@@ -5,6 +5,7 @@ use super::*;
 use crate::types::*;
 use crate::Refusal;
 use std::mem::{align_of, offset_of, size_of};
+use std::vec::Vec;
 
 /// Holds a record's fields to their places, and its size.
 macro_rules! places {
@@ -79,7 +80,7 @@ fn events_and_chases_have_their_places() {
 fn records_in_registers_have_their_places() {
     places!(CTrb { low = 0, high = 8 } 16);
     places!(CLink { pointer = 0, link = 8, cleared = 9, toggle = 10, completion = 11 } 16);
-    places!(CPart { start = 0, length = 8, refusal = 12 } 16);
+    places!(CPart { offset = 0, length = 8, refusal = 12 } 16);
     places!(CCoded { refusal = 0, code = 1 } 2);
     places!(CNumber { value = 0, refusal = 8 } 16);
 }
@@ -87,6 +88,9 @@ fn records_in_registers_have_their_places() {
 // What the archive reads and writes. The fields of commands and transfer TRBs are in tests/fields.rs.
 
 const TRB: RawTrbBuffer = [1, 2, 3, 4, 5, 6, 7, 8, 9, 10, 11, 12, 13, 14, 15, 16];
+
+/// Where the lent windows begin.
+const START: u64 = 0x7172_7374_7500_0000;
 
 /// A state that breaks a ring's limits, with a value of its own in each word.
 const STATE: State = State {
@@ -125,32 +129,37 @@ fn a_linked_ring_crosses() {
 #[test]
 fn a_chase_crosses() {
     let mut mem = vec![0; 0x1_0240];
-    mem[..14].copy_from_slice(&[0x08, 0x02, 1, 0, 0, 0, 0, 0, 0, 0, 0, 0, 0x21, 6 << 2]);
+    mem[..8].copy_from_slice(&(START + 0x1_0208).to_le_bytes());
+    (mem[12], mem[13]) = (0x21, 6 << 2);
     mem[0x1_0200..0x1_0210].copy_from_slice(&TRB);
-    let start = LinkedState { place: 0, cycle: 1 };
-    let mut ring = start.clone();
+    let first = LinkedState {
+        place: START,
+        cycle: 1,
+    };
+    let mut ring = first.clone();
     let notes = Notes {
         links: 1,
         cleared: true,
         completion: true,
     };
     let answer = Answer::Trb(RawTrb {
-        address: 0x1_0200,
+        address: START + 0x1_0200,
         buffer: TRB,
     });
-    assert_eq!(next_trb(&mem, &mut ring), Chase { answer, notes });
-    assert_eq!((ring.place, ring.cycle), (0x1_0200, 1));
+    assert_eq!(next_trb(START, &mem, &mut ring), Chase { answer, notes });
+    assert_eq!((ring.place, ring.cycle), (START + 0x1_0200, 1));
 
-    ring = start.clone();
-    let refused = next_trb(&mem[..0x1_020f], &mut ring);
+    ring = first.clone();
+    let refused = next_trb(START, &mem[..0x1_020f], &mut ring);
     assert_eq!(refused.answer, Answer::Refused(Refusal::Outside));
-    assert_eq!(ring, start);
+    assert_eq!(ring, first);
 
     mem[0x1_020c] = 0;
-    assert_eq!(next_trb(&mem, &mut ring).answer, Answer::NothingNew);
-    (mem[0], mem[1], mem[2]) = (0, 0, 0);
-    ring = start;
-    assert_eq!(next_trb(&mem, &mut ring).answer, Answer::TooManyLinks);
+    assert_eq!(next_trb(START, &mem, &mut ring).answer, Answer::NothingNew);
+    mem[..8].copy_from_slice(&START.to_le_bytes());
+    ring = first;
+    let chase = next_trb(START, &mem, &mut ring);
+    assert_eq!(chase.answer, Answer::TooManyLinks);
 }
 
 #[test]
@@ -162,23 +171,31 @@ fn a_refusal_leaves_a_state_as_it_was() {
             ..STATE
         };
         let mut state = before.clone();
-        assert_eq!(configure(&[], &mut state, 1, 1), 2);
-        assert_eq!(configure_reader(&[], &mut state, 0, 0), 3);
-        assert_eq!(add(&mut [], &mut state, &EVENT, 0), 4);
-        assert_eq!(take(&[], &mut state), Err(4));
+        assert_eq!(configure(START, &[], &mut state, 1, 1), 2);
+        assert_eq!(configure_reader(START, &[], &mut state, 0, 0), 3);
+        assert_eq!(add(START, &mut [], &mut state, &EVENT, 0), 4);
+        assert_eq!(take(START, &[], &mut state), Err(4));
         assert_eq!(state, before);
         assert_eq!(State::from(RingState::from(&before)), before);
     }
 }
 
+/// A table at 0x40 from the start on, whose entry 1 is a segment of two slots, and a TRB.
+fn segments() -> Vec<u8> {
+    let mut mem = vec![0; 0x100];
+    mem[0x50..0x58].copy_from_slice(&(START + 0x80).to_le_bytes());
+    mem[0x58] = 2;
+    mem[0xc0..0xd0].copy_from_slice(&TRB);
+    mem
+}
+
 #[test]
 fn a_state_is_read_and_written_by_its_words() {
-    let mut mem = vec![0; 0x100];
-    mem[0x50..0x5a].copy_from_slice(&[0x80, 0, 0, 0, 0, 0, 0, 0, 2, 0]);
-    mem[0xc0..0xd0].copy_from_slice(&TRB);
+    let mut mem = segments();
+    let table = START + 0x40;
     let last = State {
-        table: 0x40,
-        place: 0xc0,
+        table,
+        place: START + 0xc0,
         remaining: 1,
         index: 0,
         entries: 2,
@@ -186,24 +203,25 @@ fn a_state_is_read_and_written_by_its_words() {
         cycle: 1,
     };
     let moved = State {
-        place: 0x80,
+        place: START + 0x80,
         remaining: 2,
         index: 1,
         ..last.clone()
     };
     let mut state = last.clone();
-    assert_eq!(take(&mem, &mut state), Ok(TRB));
+    assert_eq!(take(START, &mem, &mut state), Ok(TRB));
     assert_eq!(state, moved);
     state = last;
-    assert_eq!(add(&mut mem, &mut state, &EVENT, 0x90), 0);
+    assert_eq!(add(START, &mut mem, &mut state, &EVENT, START + 0x90), 0);
     assert_eq!(state, moved);
-    assert_eq!(take(&mem, &mut state), Err(NOTHING));
-    assert_eq!(configure(&mem, &mut state, 0x40, 2), 5);
-    mem[0x40..0x4a].copy_from_slice(&[0xc0, 0, 0, 0, 0, 0, 0, 0, 3, 0]);
+    assert_eq!(take(START, &mem, &mut state), Err(NOTHING));
+    assert_eq!(configure(START, &mem, &mut state, table, 2), 5);
+    mem[0x40..0x48].copy_from_slice(&(START + 0xc0).to_le_bytes());
+    mem[0x48] = 3;
     for configure in [configure, configure_reader] {
-        assert_eq!(configure(&mem, &mut state, 0x40, 2), 0);
+        assert_eq!(configure(START, &mem, &mut state, table, 2), 0);
         let first = State {
-            place: 0xc0,
+            place: START + 0xc0,
             remaining: 3,
             index: 0,
             ..moved.clone()
@@ -348,28 +366,36 @@ fn a_link_crosses() {
 }
 
 #[test]
-fn parts_numbers_and_codes_cross() {
+fn parts_and_numbers_cross() {
     let mut mem = vec![0; 0x1_0000];
     mem[0x201..0x211].copy_from_slice(&TRB);
-    let part = |start, length, refusal| CPart {
-        start,
+    let part = |offset, length, refusal| CPart {
+        offset,
         length,
         refusal,
     };
-    assert_eq!(data(&mem, 0x0201, 0xfdff, false), part(0x0201, 0xfdff, 0));
-    assert_eq!(data(&mem, 0x0201, 0xfe00, false), part(0, 0, 1));
-    assert_eq!(data(&mem, 0, 0, true), part(0, 0, 13));
+    let at = START + 0x201;
+    let data = |pointer, length, immediate| data(START, &mem, pointer, length, immediate);
+    assert_eq!(data(at, 0xfdff, false), part(0x0201, 0xfdff, 0));
+    assert_eq!(data(at, 0xfe00, false), part(0, 0, 1));
+    assert_eq!(data(START, 0, true), part(0, 0, 13));
     let number = |value, refusal| CNumber { value, refusal };
-    assert_eq!(read2(&mem, 0x201), number(0x0201, 0));
-    assert_eq!(read4(&mem, 0x201), number(0x0403_0201, 0));
-    assert_eq!(read8(&mem, 0x201), number(0x0807_0605_0403_0201, 0));
-    assert_eq!(read8(&mem, 0xfff9), number(0, 1));
-    assert_eq!(read_trb(&mem, 0x201), Ok(TRB));
-    assert_eq!(read_trb(&mem, 0xfff1), Err(1));
-    assert_eq!(write_trb(&mut mem, 0xfff1, &TRB), 1);
-    assert_eq!(write_trb(&mut mem, 0xfff0, &TRB), 0);
+    assert_eq!(read2(START, &mem, at), number(0x0201, 0));
+    assert_eq!(read4(START, &mem, at), number(0x0403_0201, 0));
+    assert_eq!(read8(START, &mem, at), number(0x0807_0605_0403_0201, 0));
+    assert_eq!(read8(START, &mem, START + 0xfff9), number(0, 1));
+    assert_eq!(read_trb(START, &mem, at), Ok(TRB));
+    assert_eq!(read_trb(START, &mem, START + 0xfff1), Err(1));
+    assert_eq!(write_trb(START, &mut mem, START + 0xfff1, &TRB), 1);
+    assert_eq!(write_trb(START, &mut mem, START + 0xfff0, &TRB), 0);
     assert_eq!(mem[0xfff0..], TRB);
-    assert!(inside(&mem, 0xffff, 1) && !inside(&mem, 0xffff, 2));
+    let inside = |address, length| inside(START, &mem, address, length);
+    assert!(inside(START + 0xffff, 1) && !inside(START + 0xffff, 2));
+    assert!(inside(START, 1) && !inside(START - 1, 1));
+}
+
+#[test]
+fn codes_cross() {
     let coded = |refusal, code| CCoded { refusal, code };
     assert_eq!(code_of(36), coded(0, CompletionCode::SplitTransactionError));
     assert_eq!(code_of(30), coded(12, CompletionCode::Invalid));

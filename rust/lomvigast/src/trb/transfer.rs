@@ -17,8 +17,10 @@ impl TransferTrbVariant {
     /// let TransferTrbVariant::Normal(normal) = TransferTrbVariant::parse(trb) else {
     ///     panic!("type 1")
     /// };
-    /// let memory = [10, 11, 12, 13, 14, 15];
-    /// assert_eq!(normal.data(GuestMemory::new(&memory)), Ok(&memory[2..5]));
+    /// let bytes = [10, 11, 12, 13, 14, 15];
+    /// assert_eq!(normal.data(GuestMemory::new(&bytes)), Ok(&bytes[2..5]));
+    /// // In a window that begins at 1, address 2 is the second byte.
+    /// assert_eq!(normal.data(GuestMemory::at(1, &bytes)), Ok(&bytes[1..4]));
     /// ```
     #[inline]
     pub fn parse(bytes: RawTrbBuffer) -> Self {
@@ -40,6 +42,8 @@ pub trait TrbDmaInfo {
     fn has_interrupt_on_completion(&self) -> bool;
 
     /// The very part of guest memory that the TRB points at, uncopied.
+    ///
+    /// Of length 0 it is given anywhere in memory and at its end, but for an end at 2^64, which has no address.
     ///
     /// # Errors
     ///
@@ -67,6 +71,7 @@ fn part(
     trb: &(impl TrbDmaInfo + ?Sized),
 ) -> Result<Range<usize>, Refusal> {
     let part = ffi::data(
+        memory.start,
         memory.bytes,
         trb.data_pointer(),
         trb.transfer_length(),
@@ -74,8 +79,8 @@ fn part(
     );
     Refusal::check(part.refusal, 0)?;
     // Inside memory, so both fit.
-    let start = part.start as usize;
-    Ok(start..start + part.length as usize)
+    let offset = part.offset as usize;
+    Ok(offset..offset + part.length as usize)
 }
 
 macro_rules! dma_info {

@@ -26,12 +26,12 @@ impl Line {
         (Self::ParseMixed, 37),
         (Self::EventWrite, 40),
         (Self::EventRead, 65),
-        (Self::NextTrb { links: 0 }, 68),
+        (Self::NextTrb { links: 0 }, 76),
         (Self::NextTrb { links: 1 }, 105),
         (Self::NextTrb { links: 16 }, 560),
         (Self::Add { segments: 1 }, 100),
         (Self::Add { segments: 4 }, 105),
-        (Self::Take, 85),
+        (Self::Take, 88),
     ];
 }
 

@@ -1,17 +1,20 @@
 //! The link-following reader.
 
 use super::books;
-use crate::links::{any, chain, link, other, COMPLETION, TOGGLE};
+use crate::inputs::any_start;
+use crate::links::{any, chain, link, move_by, other, COMPLETION, TOGGLE};
 use crate::random::Random;
 use crate::tally::Tally;
-use lomvigast::linked_ring::LinkedRing;
+use lomvigast::linked_ring::{Answer, Chase, LinkedRing};
+use lomvigast::trb::RawTrb;
 use lomvigast::GuestMemory;
 use original::device::bus::{BusDeviceRef, Memory};
 use original::device::xhci::linked_ring::LinkedRing as Original;
 
-/// One memory for both.
+/// One memory for both. The original's begins at 0, the port's at `start`, with the Links' pointers moved by as much.
 struct Stage {
     bus: BusDeviceRef,
+    start: u64,
     bytes: Vec<u8>,
 }
 
@@ -19,19 +22,31 @@ impl Stage {
     fn new() -> Self {
         Self {
             bus: Memory::new(Vec::new()),
+            start: 0,
             bytes: Vec::new(),
         }
     }
 
     fn fill(&mut self, bytes: &[u8]) {
         self.bus.fill(bytes);
+        self.start = 0;
         bytes.clone_into(&mut self.bytes);
     }
 
-    /// Chases from a place, and holds answer, notes, place, state and every byte of memory.
+    /// The same with the port's memory elsewhere.
+    fn fill_at(&mut self, start: u64, bytes: &[u8]) {
+        self.fill(bytes);
+        self.start = start;
+        move_by(&mut self.bytes, start);
+    }
+
+    /// Chases from a place, and holds answer, notes, place, state and that the original wrote nothing; the port's memory is lent
+    /// to be read.
     fn hold(&self, tally: &mut Tally, place: u64, cycle: bool) {
-        let mut port = LinkedRing::new(place, cycle);
-        let ours = port.next_trb(GuestMemory::new(&self.bytes));
+        let start = self.start;
+        let mut port = LinkedRing::new(start.wrapping_add(place), cycle);
+        let ours = port.next_trb(GuestMemory::at(start, &self.bytes));
+        let port = (ours, port.get_dequeue_pointer());
         let mut original = Original::new(self.bus.clone(), place, cycle);
         let theirs = books::chase(&self.bus, &mut original);
         let end = original.get_dequeue_pointer();
@@ -39,15 +54,17 @@ impl Stage {
         let last = usize::try_from(end.0)
             .ok()
             .and_then(|at| self.bytes.get(at..)?.get(..16));
-        let input = (place, cycle, &self.bytes);
-        if self.bus.outside() != 0 || last.is_none() {
+        let input = (start, place, cycle, &self.bytes);
+        let expected = if self.bus.outside() != 0 || last.is_none() {
             tally.outside("a byte to be touched is not in memory: refused with 1 here");
-            let refused = (books::REFUSED, (place, cycle));
-            tally.hold(&input, refused, (ours, port.get_dequeue_pointer()));
+            (books::REFUSED, (place, cycle))
         } else {
-            tally.hold(&input, (theirs, end), (ours, port.get_dequeue_pointer()));
+            (theirs, end)
+        };
+        tally.hold(&input, moved(expected, start), port);
+        if start == 0 {
+            tally.hold(&input, true, self.bus.holds(&self.bytes));
         }
-        tally.hold(&input, true, self.bus.holds(&self.bytes));
     }
 
     fn hold_all(&self, tally: &mut Tally, places: impl Iterator<Item = u64>) {
@@ -56,6 +73,21 @@ impl Stage {
             self.hold(tally, place, true);
         }
     }
+}
+
+/// What the port has to come to where its memory begins at `start`.
+fn moved((chase, end): (Chase, (u64, bool)), start: u64) -> (Chase, (u64, bool)) {
+    let answer = match chase.answer {
+        Answer::Trb(RawTrb { address, buffer }) => Answer::Trb(RawTrb {
+            address: start.wrapping_add(address),
+            buffer,
+        }),
+        other => other,
+    };
+    (
+        Chase { answer, ..chase },
+        (start.wrapping_add(end.0), end.1),
+    )
 }
 
 /// Every memory of so many slots, each slot any TRB of an alphabet; from each slot, with both states.
@@ -126,6 +158,27 @@ pub fn long(random: &mut Random, count: u64) -> Tally {
         let (bytes, place) = chain(random, links, start);
         stage.fill(&bytes);
         stage.hold(&mut tally, place, start);
+    }
+    tally
+}
+
+/// The port in windows that begin elsewhere, the original on the same bytes at 0. Places are slots, of which it is known what is a
+/// Link; they may be just outside.
+pub fn in_windows(random: &mut Random, count: u64) -> Tally {
+    let mut tally = Tally::new("chases, the port in other windows");
+    let mut stage = Stage::new();
+    for _ in 0..count {
+        let (slots, cycle) = (random.between(1, 8), random.once_in(2));
+        let (bytes, place) = if random.once_in(64) {
+            let links = random.between(250, 260);
+            chain(random, links, cycle)
+        } else {
+            let trbs = (0..slots).flat_map(|_| any(random, slots)).collect();
+            let near = 16 * random.below(slots + 2);
+            (trbs, near.wrapping_sub(16 * u64::from(random.once_in(8))))
+        };
+        stage.fill_at(any_start(random, bytes.len()), &bytes);
+        stage.hold(&mut tally, place, cycle);
     }
     tally
 }

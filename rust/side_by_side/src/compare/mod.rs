@@ -33,11 +33,13 @@ pub fn at_random(random: &mut Random) -> Vec<Tally> {
         trbs::parts(random, 50_000),
         chases::small(random, 200_000),
         chases::long(random, 5_000),
+        chases::in_windows(random, 50_000),
         chases::steps(random, 50_000),
         rings::any(random, 200, 4, 4, 300),
         rings::any(random, 20, 16, 32, 2_000),
         rings::any(random, 1, 16, 4096, 20_000),
         rings::anywhere(random, 100, 200),
+        rings::moved(random, 200, 200),
         rings::refused_tables(random, 5_000),
     ]);
     tallies

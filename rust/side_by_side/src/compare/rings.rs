@@ -1,7 +1,7 @@
 //! The event ring.
 
 use super::books;
-use crate::inputs::{any_event, Table};
+use crate::inputs::{any_event, any_start, Table};
 use crate::random::Random;
 use crate::reference;
 use crate::tally::Tally;
@@ -11,9 +11,12 @@ use lomvigast::{GuestMemory, GuestMemoryMut, Refusal};
 use original::device::bus::{BusDeviceRef, Memory};
 use original::device::xhci::event_ring::{EventRing as Original, State};
 
-/// A ring on each side, over one table.
+/// A ring on each side, over one table. The original's memory begins at 0, the port's there or elsewhere, with all addresses moved
+/// by as much; the bytes are else the same.
 struct Pair {
     table: Table,
+    /// The port's.
+    moved: Table,
     bus: BusDeviceRef,
     bytes: Vec<u8>,
     original: Original,
@@ -21,8 +24,8 @@ struct Pair {
 }
 
 impl Pair {
-    /// Both configured, over memory that is zero, or random outside the table.
-    fn new(tally: &mut Tally, table: Table, random: Option<&mut Random>) -> Self {
+    /// Both configured, over memory that is zero, or random outside the table. The port's begins at `start`.
+    fn new(tally: &mut Tally, table: Table, start: u64, random: Option<&mut Random>) -> Self {
         let mut bytes = vec![0; table.length];
         if let Some(random) = random {
             bytes.iter_mut().for_each(|byte| *byte = random.byte());
@@ -31,8 +34,11 @@ impl Pair {
         let bus = Memory::new(bytes.clone());
         let original = Original::new(bus.clone());
         let port = EventRing::new();
+        let moved = table.moved_to(start);
+        moved.write(&mut bytes);
         let mut pair = Self {
             table,
+            moved,
             bus,
             bytes,
             original,
@@ -45,13 +51,12 @@ impl Pair {
     fn configure(&mut self, tally: &mut Tally) {
         let (base, entries) = (self.table.base, self.table.entries());
         self.original.configure(base, entries);
-        let ours = self
-            .port
-            .configure(GuestMemory::new(&self.bytes), base, entries);
-        tally.hold(&self.table, self.expected(), (ours, self.port.state()));
+        let memory = GuestMemory::at(self.moved.start, &self.bytes);
+        let ours = self.port.configure(memory, self.moved.base, entries);
+        tally.hold(&self.moved, self.expected(), (ours, self.port.state()));
     }
 
-    /// What the port has to hold, its call accepted: the original's state, and what it keeps of the table.
+    /// What the port has to hold, its call accepted: the original's state, moved, and what it keeps of the table.
     fn expected(&self) -> (Result<(), Refusal>, RingState) {
         let State {
             place,
@@ -61,37 +66,47 @@ impl Pair {
         } = self.original.state();
         let mut state = RingState::default();
         state.ready = true;
-        state.table = self.table.base;
+        state.table = self.moved.base;
         state.entries = self.table.entries();
         state.index = index;
-        state.place = place;
+        state.place = self.moved.start.wrapping_add(place);
         state.remaining = remaining;
         state.cycle = cycle;
         (Ok(()), state)
     }
 
-    /// Adds to both; a panic of the original's, at its `todo!`, is refusal 7.
+    /// Adds to both; a panic of the original's, at its `todo!`, is refusal 7. The report is the original's.
     fn add(&mut self, tally: &mut Tally, event: &EventTrb, report: u64) {
         let theirs = books::original_event(event);
         let (base, entries) = (self.table.base, self.table.entries());
         let original = &mut self.original;
         let enqueue = || original.enqueue(&theirs, entries, base, report);
         let full = books::unless_panicked(enqueue).is_none();
+        let start = self.moved.start;
+        let mut memory = GuestMemoryMut::at(start, &mut self.bytes);
         let ours = self
             .port
-            .enqueue(&mut GuestMemoryMut::new(&mut self.bytes), event, report);
+            .enqueue(&mut memory, event, start.wrapping_add(report));
         let (mut answer, state) = self.expected();
         if full {
             answer = Err(Refusal::Full);
         }
-        let input = (&self.table, event, report);
+        let input = (&self.moved, event, report);
         tally.hold(&input, (answer, state), (ours, self.port.state()));
     }
 
     /// Every byte of memory, and that the original stayed inside it.
     fn hold_memory(&self, tally: &mut Tally) {
-        let same = (self.bus.holds(&self.bytes), self.bus.outside());
-        tally.hold(&(&self.table, &self.port), (true, 0), same);
+        let same = match self.moved.start {
+            0 => self.bus.holds(&self.bytes),
+            _ => {
+                let mut expected = self.bus.bytes();
+                self.moved.write(&mut expected);
+                expected == self.bytes
+            }
+        };
+        let input = (&self.moved, &self.port);
+        tally.hold(&input, (true, 0), (same, self.bus.outside()));
     }
 
     /// Other entries in the same table, for both.
@@ -99,6 +114,8 @@ impl Pair {
         self.table.scatter(random);
         self.table.write(&mut self.bytes);
         self.bus.fill(&self.bytes);
+        self.moved = self.table.moved_to(self.moved.start);
+        self.moved.write(&mut self.bytes);
         tally.among("tables rewritten between adds");
         let kinds = self.table.kinds();
         kinds.into_iter().for_each(|kind| tally.among(kind));
@@ -111,7 +128,8 @@ impl Pair {
         empty.ready = false;
         empty.table = 0;
         empty.entries = 0;
-        tally.hold(&self.table, empty, self.port.state());
+        empty.place = self.original.state().place;
+        tally.hold(&self.moved, empty, self.port.state());
     }
 }
 
@@ -122,7 +140,7 @@ pub fn every_sequence(length: usize) -> Tally {
     for number in 0..39 {
         let sizes = sizes(number);
         let table = Table::new(0x40, &sizes, number % 2 == 1, 0);
-        let mut pair = Pair::new(&mut tally, table, None);
+        let mut pair = Pair::new(&mut tally, table, 0, None);
         let slots = pair.table.slots();
         walk(&mut pair, &mut tally, &slots, 0, length);
     }
@@ -172,7 +190,7 @@ pub fn any(random: &mut Random, rings: u64, most: u64, longest: u64, adds: u64) 
     for _ in 0..rings {
         let table = Table::any(random, most, longest);
         table.kinds().into_iter().for_each(|kind| tally.among(kind));
-        let mut pair = Pair::new(&mut tally, table, Some(random));
+        let mut pair = Pair::new(&mut tally, table, 0, Some(random));
         let slots = pair.table.slots();
         for _ in 0..adds {
             step(&mut pair, &mut tally, random, &slots);
@@ -182,12 +200,34 @@ pub fn any(random: &mut Random, rings: u64, most: u64, longest: u64, adds: u64) 
     tally
 }
 
+/// The port in windows that begin elsewhere, the original on the same bytes at 0.
+pub fn moved(random: &mut Random, rings: u64, adds: u64) -> Tally {
+    let mut tally = Tally::new("adds, the port in other windows");
+    for _ in 0..rings {
+        let scattered = random.once_in(2);
+        let table = match scattered {
+            true => Table::anywhere(random),
+            false => Table::any(random, 4, 4),
+        };
+        let start = any_start(random, table.length);
+        let mut pair = Pair::new(&mut tally, table, start, Some(random));
+        for _ in 0..adds {
+            if scattered && random.once_in(8) {
+                pair.rewrite(&mut tally, random);
+            }
+            let slots = pair.table.slots();
+            step(&mut pair, &mut tally, random, &slots);
+        }
+    }
+    tally
+}
+
 /// Tables and segments anywhere, those over each other too, and entries that are rewritten between adds.
 pub fn anywhere(random: &mut Random, rings: u64, adds: u64) -> Tally {
     let mut tally = Tally::new("adds, segments anywhere, rewritten");
     for _ in 0..rings {
         let table = Table::anywhere(random);
-        let mut pair = Pair::new(&mut tally, table, Some(random));
+        let mut pair = Pair::new(&mut tally, table, 0, Some(random));
         for n in 0..adds {
             if n == 0 || random.once_in(8) {
                 pair.rewrite(&mut tally, random);
@@ -211,7 +251,7 @@ fn step(pair: &mut Pair, tally: &mut Tally, random: &mut Random, slots: &[u64]) 
     }
     let elsewhere = random.next() & !15;
     let slot = random.pick(slots);
-    let report = random.pick(&[slot, slot, pair.port.state().place, elsewhere]);
+    let report = random.pick(&[slot, slot, pair.original.state().place, elsewhere]);
     pair.add(tally, &event, report);
     // All of a long memory only now and then.
     if pair.bytes.len() < 0x2000 || random.once_in(64) {

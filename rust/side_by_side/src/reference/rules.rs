@@ -1,4 +1,5 @@
-//! Document 01's refusals and answers, written down from its text with no other code of ours: bytes and numbers go in.
+//! Document 01's refusals and answers, and R-5's window, written down from their text with no other code of ours: bytes and
+//! numbers go in.
 
 use crate::schedules::fits;
 use lomvigast::event_ring::RingState;
@@ -7,9 +8,30 @@ use lomvigast::trb::{EventTrb, RawTrb, RawTrbBuffer};
 use lomvigast::Refusal;
 use std::ops::RangeInclusive;
 
-/// What of document 01's text is a number or an order.
+/// Guest memory: bytes, and the address of the first.
+#[derive(Debug, Clone, Copy)]
+pub struct Window<'a> {
+    pub start: u64,
+    pub bytes: &'a [u8],
+}
+
+/// Of a window's start and length, an address and a number of bytes: how far from the window's first byte these are, if they
+/// are all inside. The numbers do not wrap.
+pub type Inside = fn(u128, u128, u128, u128) -> Option<u128>;
+
+pub const INSIDE: Inside = |start, length, address, count| {
+    let inside =
+        address >= start && address + count <= 1 << 64 && address - start + count <= length;
+    inside.then(|| address - start)
+};
+
+/// What of the text is a number or an order.
 #[derive(Clone)]
 pub struct Rules {
+    /// Refusal 1: which bytes are inside.
+    pub inside: Inside,
+    /// Where the slot after a place is, while slots remain.
+    pub step: fn(u64) -> u64,
     /// Refusal 2: a table's base is a multiple of it.
     pub base: u64,
     /// Refusal 3: how many entries a table has.
@@ -20,9 +42,10 @@ pub struct Rules {
     pub remaining: RangeInclusive<u32>,
     pub table: u64,
     pub place: u64,
-    /// Refusal 5: an entry's base and size.
+    /// Refusal 5: an entry's base and size, and which segments are inside.
     pub segment: u64,
     pub size: RangeInclusive<u32>,
+    pub whole: Inside,
     /// Refusal 6: a report is a multiple of it.
     pub report: u64,
     /// How many links are followed, and of which of them the notes are.
@@ -35,6 +58,8 @@ pub struct Rules {
 }
 
 pub const DOCUMENT_01: Rules = Rules {
+    inside: INSIDE,
+    step: |place| place.wrapping_add(16),
     base: 64,
     count: 1..=16,
     entries: 1..=16,
@@ -44,6 +69,7 @@ pub const DOCUMENT_01: Rules = Rules {
     place: 16,
     segment: 64,
     size: 1..=4096,
+    whole: INSIDE,
     report: 16,
     links: 256,
     noted: |followed| followed,
@@ -51,6 +77,9 @@ pub const DOCUMENT_01: Rules = Rules {
     adding: &[8, 4, 6, 1, 5, 7],
     taking: &[4, 1, 5],
 };
+
+/// A TRB that can be told from others.
+pub const WRITTEN: RawTrbBuffer = [1, 2, 3, 4, 5, 6, 7, 8, 9, 10, 11, 12, 13, 14, 15, 16];
 
 /// Which refusals' words are true of an input, by their numbers.
 pub type Met = [bool; 14];
@@ -61,17 +90,7 @@ fn first(order: &[u8], met: &Met) -> u8 {
     order.iter().copied().find(is_met).unwrap_or(0)
 }
 
-/// So many bytes from an address on, if all are in memory. An address does not wrap.
-fn part(bytes: &[u8], address: u128, length: usize) -> Option<&[u8]> {
-    let start = usize::try_from(address).ok()?;
-    bytes.get(start..)?.get(..length)
-}
-
-fn trb_at(bytes: &[u8], address: u64) -> Option<RawTrbBuffer> {
-    part(bytes, address.into(), 16)?.try_into().ok()
-}
-
-fn little(bytes: &[u8]) -> u64 {
+pub fn little(bytes: &[u8]) -> u64 {
     let with = |number: u64, byte: &u8| (number << 8) | u64::from(*byte);
     bytes.iter().rev().fold(0, with)
 }
@@ -80,49 +99,6 @@ struct Entry {
     index: u16,
     base: u64,
     size: u32,
-}
-
-/// An entry of a table, if all of it is in memory.
-fn entry(bytes: &[u8], table: u64, index: u16) -> Option<Entry> {
-    let raw = part(bytes, u128::from(table) + 16 * u128::from(index), 16)?;
-    Some(Entry {
-        index,
-        base: little(&raw[..8]),
-        size: little(&raw[8..12]) as u32,
-    })
-}
-
-/// The entry after the present one: entry 0 after the last.
-fn next_entry(bytes: &[u8], state: &RingState) -> Option<Entry> {
-    let next = state.index.wrapping_add(1);
-    let index = if next == state.entries { 0 } else { next };
-    entry(bytes, state.table, index)
-}
-
-/// The slot after the present one, if it is known.
-pub fn slot_after(bytes: &[u8], state: &RingState) -> Option<u64> {
-    match state.remaining {
-        1 => Some(next_entry(bytes, state)?.base),
-        _ => state.place.checked_add(16),
-    }
-}
-
-/// One slot on; `next` is the entry that is entered, if one slot remained.
-fn moved(state: &RingState, next: Option<Entry>) -> RingState {
-    let mut moved = *state;
-    match next {
-        Some(entry) => {
-            moved.index = entry.index;
-            moved.place = entry.base;
-            moved.remaining = entry.size;
-            moved.cycle ^= entry.index == 0;
-        }
-        None => {
-            moved.place = moved.place.wrapping_add(16);
-            moved.remaining = moved.remaining.wrapping_sub(1);
-        }
-    }
-    moved
 }
 
 /// An event's bytes, those not named 0.
@@ -154,6 +130,74 @@ fn written(event: &EventTrb, cycle: bool) -> RawTrbBuffer {
 }
 
 impl Rules {
+    /// How far from the first byte so many bytes are, if all are in memory. No sum wraps.
+    pub fn offset(&self, window: Window<'_>, address: u128, length: u64) -> Option<usize> {
+        let (start, held) = (window.start.into(), window.bytes.len() as u128);
+        let offset = (self.inside)(start, held, address, length.into())?;
+        usize::try_from(offset).ok()
+    }
+
+    pub fn part<'a>(&self, window: Window<'a>, address: u128, length: usize) -> Option<&'a [u8]> {
+        let offset = self.offset(window, address, length as u64)?;
+        window.bytes.get(offset..)?.get(..length)
+    }
+
+    pub fn trb_at(&self, window: Window<'_>, address: u64) -> Option<RawTrbBuffer> {
+        self.part(window, address.into(), 16)?.try_into().ok()
+    }
+
+    /// Writes [`WRITTEN`], or nothing.
+    pub fn write(&self, start: u64, bytes: &mut [u8], address: u64) {
+        let offset = self.offset(Window { start, bytes }, address.into(), 16);
+        let slot = offset.and_then(|offset| bytes.get_mut(offset..)?.get_mut(..16));
+        if let Some(slot) = slot {
+            slot.copy_from_slice(&WRITTEN);
+        }
+    }
+
+    /// An entry of a table, if all of it is in memory.
+    fn entry(&self, window: Window<'_>, table: u64, index: u16) -> Option<Entry> {
+        let raw = self.part(window, u128::from(table) + 16 * u128::from(index), 16)?;
+        Some(Entry {
+            index,
+            base: little(&raw[..8]),
+            size: little(&raw[8..12]) as u32,
+        })
+    }
+
+    /// The entry after the present one: entry 0 after the last.
+    fn next_entry(&self, window: Window<'_>, state: &RingState) -> Option<Entry> {
+        let next = state.index.wrapping_add(1);
+        let index = if next == state.entries { 0 } else { next };
+        self.entry(window, state.table, index)
+    }
+
+    /// The slot after the present one, if it is known.
+    pub fn slot_after(&self, window: Window<'_>, state: &RingState) -> Option<u64> {
+        match state.remaining {
+            1 => Some(self.next_entry(window, state)?.base),
+            _ => Some((self.step)(state.place)),
+        }
+    }
+
+    /// One slot on; `next` is the entry that is entered, if one slot remained.
+    fn moved(&self, state: &RingState, next: Option<Entry>) -> RingState {
+        let mut moved = *state;
+        match next {
+            Some(entry) => {
+                moved.index = entry.index;
+                moved.place = entry.base;
+                moved.remaining = entry.size;
+                moved.cycle ^= entry.index == 0;
+            }
+            None => {
+                moved.place = (self.step)(moved.place);
+                moved.remaining = moved.remaining.wrapping_sub(1);
+            }
+        }
+        moved
+    }
+
     fn broken(&self, state: &RingState) -> bool {
         !(state.ready
             && self.entries.contains(&state.entries)
@@ -163,27 +207,31 @@ impl Rules {
             && state.place.is_multiple_of(self.place))
     }
 
-    fn bad(&self, bytes: &[u8], entry: &Entry) -> bool {
-        let end = u128::from(entry.base) + 16 * u128::from(entry.size);
-        let inside = end <= bytes.len() as u128;
-        !entry.base.is_multiple_of(self.segment) || !self.size.contains(&entry.size) || !inside
+    fn bad(&self, window: Window<'_>, entry: &Entry) -> bool {
+        let (start, held) = (window.start.into(), window.bytes.len() as u128);
+        let length = 16 * u128::from(entry.size);
+        let whole = (self.whole)(start, held, entry.base.into(), length);
+        !entry.base.is_multiple_of(self.segment)
+            || !self.size.contains(&entry.size)
+            || whole.is_none()
     }
 
     /// Each of these three answers a number, 0 for accepted, and what was met; the state, and in `add` the bytes, are then as they
     /// are left.
     pub fn configure(
         &self,
-        bytes: &[u8],
+        window: Window<'_>,
         state: &mut RingState,
         table: u64,
         entries: u16,
     ) -> (u8, Met) {
         let mut met = [false; 14];
-        let entry = entry(bytes, table, 0);
+        let entry = self.entry(window, table, 0);
+        let length = 16 * u64::from(entries);
         met[2] = !table.is_multiple_of(self.base);
         met[3] = !self.count.contains(&entries);
-        met[1] = part(bytes, table.into(), 16 * usize::from(entries)).is_none();
-        met[5] = entry.as_ref().is_some_and(|entry| self.bad(bytes, entry));
+        met[1] = self.offset(window, table.into(), length).is_none();
+        met[5] = entry.as_ref().is_some_and(|entry| self.bad(window, entry));
         let number = first(self.configuring, &met);
         if let (0, Some(entry)) = (number, entry) {
             state.ready = true;
@@ -196,54 +244,64 @@ impl Rules {
 
     pub fn add(
         &self,
+        start: u64,
         bytes: &mut [u8],
         state: &mut RingState,
         event: &EventTrb,
         report: u64,
     ) -> (u8, Met) {
         let mut met = [false; 14];
+        let window = Window { start, bytes };
         let last = state.remaining == 1;
-        let next = next_entry(bytes, state).filter(|_| last);
+        let next = self.next_entry(window, state).filter(|_| last);
         met[8] = !fits(event);
         met[4] = self.broken(state);
         met[6] = !report.is_multiple_of(self.report);
-        met[1] = trb_at(bytes, state.place).is_none() || last && next.is_none();
-        met[5] = next.as_ref().is_some_and(|entry| self.bad(bytes, entry));
-        met[7] = slot_after(bytes, state) == Some(report);
+        let slot = self.offset(window, state.place.into(), 16);
+        met[1] = slot.is_none() || last && next.is_none();
+        met[5] = next.as_ref().is_some_and(|entry| self.bad(window, entry));
+        met[7] = self.slot_after(window, state) == Some(report);
         let number = first(self.adding, &met);
-        if number == 0 {
-            let slot = &mut bytes[state.place as usize..][..16];
-            slot.copy_from_slice(&written(event, state.cycle));
-            *state = moved(state, next);
+        if let (0, Some(slot)) = (number, slot) {
+            let trb = written(event, state.cycle);
+            // Only a wrong rule has slots that are not there.
+            if let Some(bytes) = bytes.get_mut(slot..slot.saturating_add(16)) {
+                bytes.copy_from_slice(&trb);
+            }
+            *state = self.moved(state, next);
         }
         (number, met)
     }
 
     /// Also the bytes that are taken, if any.
-    pub fn take(&self, bytes: &[u8], state: &mut RingState) -> (u8, Option<RawTrbBuffer>, Met) {
+    pub fn take(
+        &self,
+        window: Window<'_>,
+        state: &mut RingState,
+    ) -> (u8, Option<RawTrbBuffer>, Met) {
         let mut met = [false; 14];
-        let slot = trb_at(bytes, state.place);
+        let slot = self.trb_at(window, state.place);
         let fresh = slot.filter(|trb| (trb[12] & 1 != 0) == state.cycle);
         // The next entry is looked at only if the slot is fresh and last.
         let last = fresh.is_some() && state.remaining == 1;
-        let next = next_entry(bytes, state).filter(|_| last);
+        let next = self.next_entry(window, state).filter(|_| last);
         met[4] = self.broken(state);
         met[1] = slot.is_none() || last && next.is_none();
-        met[5] = next.as_ref().is_some_and(|entry| self.bad(bytes, entry));
+        met[5] = next.as_ref().is_some_and(|entry| self.bad(window, entry));
         let number = first(self.taking, &met);
         let taken = fresh.filter(|_| number == 0);
         if taken.is_some() {
-            *state = moved(state, next);
+            *state = self.moved(state, next);
         }
         (number, taken, met)
     }
 
     /// The answer with its notes, and place and state afterwards. The links that are followed are kept in a list.
-    pub fn chase(&self, bytes: &[u8], place: u64, cycle: bool) -> (Chase, (u64, bool)) {
+    pub fn chase(&self, window: Window<'_>, place: u64, cycle: bool) -> (Chase, (u64, bool)) {
         let mut followed = Vec::new();
         let (mut at, mut state) = (place, cycle);
         let answer = loop {
-            let Some(trb) = trb_at(bytes, at) else {
+            let Some(trb) = self.trb_at(window, at) else {
                 let answer = Answer::Refused(Refusal::Outside);
                 return (self.noting(answer, &[]), (place, cycle));
             };

@@ -2,7 +2,7 @@
 use mathlib.Core.Path.{_≡_, refl, sym, ap, _∙_}
 use mathlib.Core.Bool.{Bool, true, Bool·beq}
 use Rattle.guest.specs.Judge.{judge}
-use Rattle.guest.specs.Memory.{Memory, inside, trbAt}
+use Rattle.guest.specs.Memory.{Memory, window, inside, trbAt}
 use Rattle.guest.proofs.Tests.{yes, no}
 use Rattle.guest.proofs.Judge.{judge-passes}
 use Rattle.guest.proofs.Answers.{Read, read-yes, read-no}
@@ -16,7 +16,7 @@ use Rattle.event_ring.proofs.EventReader.take.Statement.{statement}
 use Rattle.event_ring.proofs.EventReader.take.Tie as tie
 
 abbrev m : tie.After-trb → Memory
-m c = c .before .before .before .before .before .before .before .before .args .mem .now
+m c = let x = c .before .before .before .before .before .before .before .before .args in window (x .start) (x .mem .now)
 
 abbrev s : tie.After-trb → EventRing
 s c = c .before .before .before .before .before .before .before .before .args .self .state
@@ -44,7 +44,7 @@ take-spec =
     (λ c. let r = c .before .before .before in rw (yes (r .before .before .ok .ensures) (r .before .if1 .left), read-no _ _ (r .read-trb .result) (r .read-trb .ensures) (c .before .if2 .taken)) (c .refused2 .ensures))
     (λ c κs. search needs)
     (λ c. let b = c .before .before in rw (was-ok (b .before), was-read (b .before) .within, no (is-fresh b) (c .if3 .taken)))
-    (λ c κs. let b = c .before .before in (was-ok (b .before), was-read (b .before) .within))
+    (λ c κs. was-ok (c .before .before .before))
     (λ c κs. search needs)
     (λ c. let n = c .before .before .before in let b = n .before .before .before in let t = b .before in
     rw (was-ok t, was-read t .within, yes (is-fresh b) (n .before .if3 .left)) (c .refused3 .ensures ∙ sym (next-stops (m t) (s t) (n .next .result) (n .next .ensures) (c .before .if4 .taken) (takeRefused _) _)))

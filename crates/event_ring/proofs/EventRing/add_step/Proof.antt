@@ -6,7 +6,7 @@ use mathlib.Core.Bool.{true, not}
 use borrow.Author.Tests.{eq-eqb, ne-eqb}
 use lib.Dec.{eqb}
 use Rattle.guest.specs.Judge.{Tests, judge}
-use Rattle.guest.specs.Memory.{Memory, inside}
+use Rattle.guest.specs.Memory.{Memory, window, inside}
 use Rattle.guest.proofs.Tests.{yes, no}
 use Rattle.guest.proofs.Judge.{judge-append}
 use Rattle.event_ring.specs.Ring.{okState, nextTests, nextState, full, addStep, refusedAt, movedTo}
@@ -19,7 +19,7 @@ use Rattle.event_ring.proofs.EventRing.add_step.Tie as tie
 
 -- what is known once the slot is found inside
 abbrev m : tie.Else3 → Memory
-m c = c .before .before .before .before .before .before .args .mem .now
+m c = let x = c .before .before .before .before .before .before .args in window (x .start) (x .mem .now)
 
 abbrev s : tie.Else3 → EventRing
 s c = c .before .before .before .before .before .before .args .self
@@ -62,7 +62,7 @@ add-step-spec =
     (λ c κs. search needs)
     (λ c κs. search needs)
     (λ c. let d = c .before .before .before in rw (yes (d .before .before .ok .ensures) (d .before .if1 .left), eq-eqb _ _ (d .if2 .left), no (c .before .before .inside .ensures) (c .before .if3 .taken)) (c .refused3 .ensures))
-    (λ c κs. let p = found c in (p .0, p .2))
+    (λ c κs. found c .0)
     (λ c. let n = c .before .before in let d = n .before in let p = found d in let stops = next-stops (m d) (s d) (n .next .result) (n .next .ensures) (c .if4 .taken) in
     rw (p .0, p .1, p .2, judge-append) (n .next .ensures ∙ stops (refusedAt (s d)) _ ∙ sym (stops (refusedAt (s d)) _)))
     (λ c κs. search needs)

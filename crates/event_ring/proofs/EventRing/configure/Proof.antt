@@ -6,9 +6,9 @@ use native.Mathlib.Omega.{arith}
 use borrow.Author.Tests.{eq-eqb, ne-eqb}
 use lib.Dec.{eqb}
 use Rattle.guest.specs.Judge.{judge}
-use Rattle.guest.specs.Memory.{Memory, inside}
+use Rattle.guest.specs.Memory.{Memory, window, inside}
 use Rattle.guest.proofs.Tests.{yes, no}
-use Rattle.guest.proofs.Memory.{inside-le, inside-less}
+use Rattle.guest.proofs.Memory.{inside-less}
 use Rattle.event_ring.specs.Ring.{configured, countOk, goodEntry}
 use Rattle.event_ring.proofs.Laws.{counted}
 use borrow.Author.Needs.{needs}
@@ -17,7 +17,7 @@ use Rattle.event_ring.proofs.EventRing.configure.Tie as tie
 
 -- what is known once the table is found inside
 abbrev m : tie.Else3 → Memory
-m c = c .before .before .before .before .before .before .args .mem .now
+m c = let x = c .before .before .before .before .before .before .args in window (x .start) (x .mem .now)
 
 abbrev t : tie.Else3 → ℕ
 t c = c .before .before .before .before .before .before .args .table

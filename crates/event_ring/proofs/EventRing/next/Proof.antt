@@ -3,7 +3,6 @@ use mathlib.Core.Path.{ap}
 use native.Mathlib.Omega.{arith}
 use borrow.Author.Tests.{eq-eqb, ne-eqb}
 use Rattle.guest.specs.Judge.{judge}
-use Rattle.guest.proofs.Memory.{inside-le}
 use Rattle.event_ring.specs.Ring.{nextTests, nextState, movedTo}
 use Rattle.event_ring.proofs.Laws.{limits}
 use borrow.Author.Needs.{needs}
@@ -17,5 +16,5 @@ next-spec =
     (tie.spec
     (λ c κs. search needs)
     (λ c. rw (eq-eqb _ _ (c .before .if1 .taken)) (c .enter-next .ensures))
-    (λ c κs. let x = c .before .before .before in omega (arith, limits (x .args .self) (x .pre .0), inside-le (x .args .mem .now) (x .args .self .place) 16 (x .pre .1), x .good))
+    (λ c κs. let x = c .before .before .before in limits (x .args .self) (x .pre) .left)
     (λ c. rw (ne-eqb _ _ (c .before .if1 .left)) (ap movedTo (c .step .ensures))))

@@ -6,7 +6,7 @@ use mathlib.Core.Bool.{true}
 use mathlib.Core.List.{List}
 use native.Mathlib.Omega.{arith}
 use borrow.Author.Needs.{needs}
-use Rattle.guest.specs.Memory.{Memory, inside, trbAt}
+use Rattle.guest.specs.Memory.{Memory, window, inside, trbAt}
 use Rattle.guest.proofs.Tests.{no, yes}
 use Rattle.guest.proofs.Answers.{Read, read-yes, read-no}
 use Rattle.trb.specs.Links.{linkOf}
@@ -19,21 +19,22 @@ use Rattle.linked_ring.proofs.LinkedRing.go_on.Statement.{statement}
 use Rattle.linked_ring.proofs.LinkedRing.go_on.Tie as tie
 
 abbrev Inv-loop : tie.InvT-loop
-Inv-loop mem entry ring₀ notes₀ ring notes = chaseFrom mem entry (256 - notes .links) ring notes ≡ chaseFrom mem entry (256 - notes₀ .links) ring₀ notes₀
+Inv-loop start mem entry ring₀ notes₀ ring notes =
+    chaseFrom (window start mem) entry (256 - notes .links) ring notes ≡ chaseFrom (window start mem) entry (256 - notes₀ .links) ring₀ notes₀
 
 abbrev μ-loop : tie.MeasureT-loop
-μ-loop mem entry ring₀ notes₀ ring notes = 256 - notes .links
+μ-loop start mem entry ring₀ notes₀ ring notes = 256 - notes .links
 
 -- the memory, the ring of the entry, and the sixteen bytes that a turn looks at
 abbrev mem : tie.At-loop Inv-loop μ-loop → Memory
-mem a = a .before .before .args .mem .now
+mem a = let g = a .before .before .args in window (g .start) (g .mem .now)
 
 abbrev entry : tie.At-loop Inv-loop μ-loop → LinkedRing
 entry a = a .before .before .args .entry
 
 -- the whole chase
 abbrev whole : tie.At-loop Inv-loop μ-loop → Chase
-whole a = let g = a .before .before .args in chaseFrom (g .mem .now) (g .entry) (256 - g .noted .links) (g .self) (g .noted)
+whole a = let g = a .before .before .args in chaseFrom (mem a) (g .entry) (256 - g .noted .links) (g .self) (g .noted)
 
 abbrev here : tie.At-loop Inv-loop μ-loop → List ℕ
 here a = trbAt (mem a) (a .loop .ring .place)

@@ -1,7 +1,9 @@
 -- By the event that was given, then by what add answered. Assumes nothing.
 use mathlib.Core.Path.{_≡_, refl, sym, ap, ap₂, _∙_}
+use mathlib.Core.List.{List}
+use Prim.Native.Nat.{ℕ}
 use borrow.Author.Tests.{eq-eqb, ne-eqb}
-use Rattle.guest.specs.Memory.{Memory}
+use Rattle.guest.specs.Memory.{window}
 use Rattle.event_ring.specs.Ring.{added, addedMemory}
 use Rattle.event_ring.specs.declared.EventRing.{EventRing}
 use Rattle.lomvigast_ffi.specs.Rings.{stateOf}
@@ -10,14 +12,14 @@ use Rattle.lomvigast_ffi.proofs.rings.add.Statement.{statement}
 use Rattle.lomvigast_ffi.proofs.rings.add.Tie as tie
 
 -- what add answered, and what it left, of the state that the words say
-came : (c : tie.After-add) → let x = c .before .before .before .before .before .before .before .before .before .args in c .add .result ≡ added (x .mem .now) (stateOf (x .ring .now)) (c .before .before .before .before .before .given2 .given .0 .0) (x .report)
+came : (c : tie.After-add) → let x = c .before .before .before .before .before .before .before .before .before .args in c .add .result ≡ added (window (x .start) (x .mem .now)) (stateOf (x .ring .now)) (c .before .before .before .before .before .given2 .given .0 .0) (x .report)
 came c = let x = c .before .before .before .before .before .before .before .before .before .args in
-    c .add .ensures .0 ∙ ap (λ (r : EventRing). added (x .mem .now) r (c .before .before .before .before .before .given2 .given .0 .0) (x .report)) (c .before .before .state .ensures)
+    c .add .ensures .0 ∙ ap (λ (r : EventRing). added (window (x .start) (x .mem .now)) r (c .before .before .before .before .before .given2 .given .0 .0) (x .report)) (c .before .before .state .ensures)
 
-memory : {after : Memory} (c : tie.After-add) → let x = c .before .before .before .before .before .before .before .before .before .args in let e = c .before .before .before .before .before .given2 .given .0 .0 in
-    after ≡ addedMemory (x .mem .now) (c .before .before .state .result) e (x .report) → after ≡ addedMemory (x .mem .now) (stateOf (x .ring .now)) e (x .report)
+memory : {after : List ℕ} (c : tie.After-add) → let x = c .before .before .before .before .before .before .before .before .before .args in let e = c .before .before .before .before .before .given2 .given .0 .0 in
+    after ≡ addedMemory (window (x .start) (x .mem .now)) (c .before .before .state .result) e (x .report) .bytes → after ≡ addedMemory (window (x .start) (x .mem .now)) (stateOf (x .ring .now)) e (x .report) .bytes
 memory c q = let x = c .before .before .before .before .before .before .before .before .before .args in
-    q ∙ ap (λ (r : EventRing). addedMemory (x .mem .now) r (c .before .before .before .before .before .given2 .given .0 .0) (x .report)) (c .before .before .state .ensures)
+    q ∙ ap (λ (r : EventRing). addedMemory (window (x .start) (x .mem .now)) r (c .before .before .before .before .before .given2 .given .0 .0) (x .report) .bytes) (c .before .before .state .ensures)
 
 pub add-spec : {M : Type 1} → statement M
 add-spec =

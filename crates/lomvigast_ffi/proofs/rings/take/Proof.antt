@@ -1,5 +1,6 @@
 -- By what take answered. Assumes nothing.
 use mathlib.Core.Path.{_≡_, refl, sym, ap, ap₂, _∙_}
+use Rattle.guest.specs.Memory.{window}
 use Rattle.event_ring.specs.Ring.{readerAt, take}
 use Rattle.event_ring.specs.declared.EventRing.{EventRing}
 use Rattle.lomvigast_ffi.specs.Rings.{stateOf}
@@ -7,9 +8,9 @@ use borrow.Author.Needs.{needs}
 use Rattle.lomvigast_ffi.proofs.rings.take.Statement.{statement}
 use Rattle.lomvigast_ffi.proofs.rings.take.Tie as tie
 
-came : (c : tie.After-take) → let x = c .before .before .before .before .args in c .take .result ≡ take (x .mem .now) (readerAt (stateOf (x .reader .now)))
+came : (c : tie.After-take) → let x = c .before .before .before .before .args in c .take .result ≡ take (window (x .start) (x .mem .now)) (readerAt (stateOf (x .reader .now)))
 came c = let x = c .before .before .before .before .args in
-    c .take .ensures ∙ ap (λ (s : EventRing). take (x .mem .now) (readerAt s)) (c .before .state .ensures)
+    c .take .ensures ∙ ap (λ (s : EventRing). take (window (x .start) (x .mem .now)) (readerAt s)) (c .before .state .ensures)
 
 pub take-spec : {M : Type 1} → statement M
 take-spec =

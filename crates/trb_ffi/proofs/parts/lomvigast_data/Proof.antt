@@ -1,6 +1,9 @@
 -- The number says whether the part is given. Assumes nothing.
 use mathlib.Core.Path.{sym, _∙_}
-use Rattle.guest.proofs.Memory.{part-length}
+use Prim.{tt}
+use Rattle.guest.proofs.Judge.{judge-passes}
+use Rattle.guest.proofs.Memory.{within-inside}
+use Rattle.guest.proofs.Bytes.{part-length}
 use Rattle.trb.proofs.Parts.{given, withheld}
 use borrow.Author.Needs.{needs}
 use Rattle.trb_ffi.proofs.parts.lomvigast_data.Statement.{statement}
@@ -12,6 +15,10 @@ lomvigast-data-spec =
     (tie.spec
     (λ c κs. search needs)
     (λ c. let e = c .before .lomvigast-data-refusal .ensures in let none = withheld _ _ (λ z. c .if1 .taken (e ∙ z)) in
-    rw (none .start, none .bytes, e))
-    (λ c. let z = sym (c .before .lomvigast-data-refusal .ensures) ∙ c .if1 .left in let g = given _ _ z in
-    rw (g .start, g .bytes, z, part-length _ _ _ (g .within))))
+    rw (none .offset, none .bytes, e))
+    (λ c κs. search needs)
+    (λ c.
+    let b = c .before in
+    let z = sym (b .before .lomvigast-data-refusal .ensures) ∙ b .if1 .left in
+    let g = given _ _ z in
+    rw (c .offset .ensures ∙ judge-passes _ _ _ (within-inside _ _ _ (g .within), tt), g .offset, g .bytes, z, part-length _ _ _ (g .within .fits))))
