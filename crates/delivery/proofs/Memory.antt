@@ -58,12 +58,12 @@ pub trb-put : (m : Memory) (v : List ℕ) (a : ℕ) → length v ≡ 16 → With
 trb-put m v a e w = ap (part (write m a v) a) (sym e) ∙ write-there m a v w
 
 -- zeros are stale to the first pass
-pub le-zero : (k : ℕ) (m : Memory) (a : ℕ) → m .start ≤ a → ((x : ℕ) → a ≤ x → x < a + k → byte m x ≡ 0) → le m a k ≡ 0
+pub le-zeros : (k : ℕ) (m : Memory) (a : ℕ) → m .start ≤ a → ((x : ℕ) → a ≤ x → x < a + k → byte m x ≡ 0) → le m a k ≡ 0
 unfolding bytes.le
-le-zero zero m a f z = refl
-le-zero (suc k) m a f z =
-    rw (le-next m a k f, z a (omega arith) (omega arith), le-zero k m (a + 1) (omega arith) (λ x l u. z x (omega arith) (omega arith)))
+le-zeros zero m a f z = refl
+le-zeros (suc k) m a f z =
+    rw (le-next m a k f, z a (omega arith) (omega arith), le-zeros k m (a + 1) (omega arith) (λ x l u. z x (omega arith) (omega arith)))
 
 pub zero-cycle : (m : Memory) (a : ℕ) → m .start ≤ a → ((x : ℕ) → a ≤ x → x < a + 16 → byte m x ≡ 0) → cycleOf (trbAt m a) ≡ false
 zero-cycle m a f z =
-    rw (le-part m a 12 f 4 16 (omega arith), le-zero 4 m (a + 12) (omega arith) (λ x l u. z x (omega arith) (omega arith)))
+    rw (le-part m a 12 f 4 16 (omega arith), le-zeros 4 m (a + 12) (omega arith) (λ x l u. z x (omega arith) (omega arith)))

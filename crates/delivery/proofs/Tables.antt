@@ -7,7 +7,7 @@ use native.Mathlib.Omega.{arith}
 use Rattle.guest.specs.Memory.{Memory, byte, le}
 use Rattle.event_ring.specs.Ring.{entryAt, entryOf}
 use Rattle.delivery.specs.Demand3.{Setup, base, size, Apart, Premises}
-use Rattle.delivery.proofs.Memory.{le-zero}
+use Rattle.delivery.proofs.Memory.{le-zeros}
 use Rattle.delivery.proofs.Walk.{good-at}
 
 module _ (s : Setup) (W : Premises s) where
@@ -22,7 +22,7 @@ module _ (s : Setup) (W : Premises s) where
   never j k h g l u =
       let a = s .table + 16 * k + 8 in
       let z : le (s .mem) a 4 ≡ 0 =
-      le-zero 4 (s .mem) a (omega (arith, good-at s W j h .within .from)) (λ x low high. zero-at j h x (omega arith) (omega arith)) in
+      le-zeros 4 (s .mem) a (omega (arith, good-at s W j h .within .from)) (λ x low high. zero-at j h x (omega arith) (omega arith)) in
       omega (arith, z, good-at s W k g .some)
 
   pub tables : (j : ℕ) → j < s .entries → Apart (base s j) (16 * size s j) (s .table) (16 * s .entries)

@@ -12,9 +12,6 @@ ghost use Prim.Native.Nat.{_≤_, _<_};
 ghost use Rattle.guest.specs.Memory.{window, inside};
 ghost use Rattle.event_ring.specs.Ring.{empty, entryAt, goodEntry, countOk, okState, nextIndex, entered, along, refusedAt, enterNext, next, configured, addStep, added, addedMemory, readerAt, readerConfigured, takeRefused, take};
 
-// The last address.
-const LAST: u64 = 0xffff_ffff_ffff_ffff;
-
 // An entry of the segment table.
 pub struct Entry {
     pub base: u64,
@@ -189,7 +186,7 @@ impl EventRing {
     {
         let index = self.next_index();
         let past = 16 * (index as u64);
-        if LAST - self.table < past {
+        if guest::LAST - self.table < past {
             return self.refused(refusal::OUTSIDE);
         }
         let entry = self.table + past;

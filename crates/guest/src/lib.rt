@@ -11,7 +11,7 @@ ghost use Rattle.guest.specs.Fields.{dwordsOf, bytesOfDwords, lowOf, hig
 ghost use Rattle.guest.specs.Answers.{numberAt, trbRead, noSlot, slotOf, slotRead, writeNumber, writeMemory, offsetOf, partOf};
 
 // The last address.
-const LAST: u64 = 0xffff_ffff_ffff_ffff;
+pub const LAST: u64 = 0xffff_ffff_ffff_ffff;
 
 // A number read from memory, or the refusal's number.
 pub enum Number {

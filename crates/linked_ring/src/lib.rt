@@ -120,7 +120,7 @@ impl LinkedRing {
     }
 
     // The chase from here on, of a ring that stood at `entry` when it began and has come here over so many links.
-    pub fn go_on(self, start: u64, mem: &[u8], entry: LinkedRing, noted: Notes) -> Chase
+    fn go_on(self, start: u64, mem: &[u8], entry: LinkedRing, noted: Notes) -> Chase
         ensures { λ r. ⌜ r ≡ chaseFrom (window start (now (mem .entry))) entry (256 - noted .links) self noted ⌝ }
     {
         let mut ring = self;

@@ -25,6 +25,7 @@ use Rattle.linked_ring.specs.declared.Chase.{Chase}
 use Rattle.lomvigast_ffi.specs.Linked.{ringWords, ringAfter, flatChase}
 use Rattle.lomvigast_ffi.specs.declared.linked.CChase.{CChase}
 use Rattle.lomvigast_ffi.proofs.Slots.{four-below, fresh-yes, fresh-no}
+use Rattle.lomvigast_ffi.proofs.States.{bit-one}
 
 -- so many links, and nothing else to note
 abbrev counted : ℕ → Notes
@@ -34,12 +35,7 @@ counted n = record { links = n; cleared = false; completion = false }
 abbrev pub from : Memory → LinkedRing → ℕ → ℕ → ℕ → Chase
 from m entry p c k = chaseFrom m entry (256 - k) (ringAt p (eqb c 1)) (counted k)
 
--- a flag's word, and the flag that a sum of two is
-bit-one : (c : ℕ) → c < 2 → bit (eqb c 1) ≡ c
-bit-one zero h = refl
-bit-one (suc zero) h = refl
-bit-one (suc (suc c)) h = absurd (omega arith)
-
+-- the flag that a sum of two is
 flip : (c t : ℕ) → c < 2 → t < 2 → not (Bool·beq (eqb c 1) (eqb t 1)) ≡ eqb ((c + t) % 2) 1
 flip zero zero p q = refl
 flip zero (suc zero) p q = refl

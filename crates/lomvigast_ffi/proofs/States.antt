@@ -16,7 +16,7 @@ use Rattle.event_ring.specs.declared.EventRing.{EventRing}
 use Rattle.lomvigast_ffi.specs.Rings.{wordsOf, fits, fieldsOf, stateOf, plain, stepped}
 
 -- a flag's word
-bit-one : (n : ℕ) → n < 2 → bit (eqb n 1) ≡ n
+pub bit-one : (n : ℕ) → n < 2 → bit (eqb n 1) ≡ n
 bit-one zero h = refl
 bit-one (suc zero) h = refl
 bit-one (suc (suc n)) h = absurd (omega arith)

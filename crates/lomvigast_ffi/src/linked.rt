@@ -123,8 +123,8 @@ fn nothing_new(ring: &mut CLinkedRing, place: u64, cycle: u64, links: u64) -> CC
     }
 }
 
-// Links that leave nothing to note are followed here; where anything else is met, the whole rule begins anew. The next place is a Link's pointer as it was read and not what
-// is left of it after a mask, so that the next TRB can be read a step earlier.
+// Links that leave nothing to note are followed here; where anything else is met, the whole rule begins anew. The next place is a Link's
+// pointer as it was read and not what is left of it after a mask, so that the next TRB can be read a step earlier.
 #[no_mangle]
 pub extern "C" fn lomvigast_next_trb(start: u64, mem: &[u8], ring: &mut CLinkedRing) -> CChase
     ensures { λ r. ⌜ (r ≡ flatChase (chase (window start (now (mem .entry))) (ringOf (now (ring .entry)))))
