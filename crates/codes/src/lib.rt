@@ -1,11 +1,13 @@
 // Completion codes, the classes of a code byte, and the TRB types by name.
+#![tactic(auto)]
+
 ghost use Rattle.std.specs.Prelude.{◌≡◌};
 ghost use Rattle.codes.specs.Codes.{number_of, code_of, class_of};
 
 pub mod trb_types;
 
 // The completion codes, xHCI 1.2 table 6-90. The number 30 is reserved.
-#[derive(Drop)]
+#[derive(Clone, Copy)]
 pub enum CompletionCode {
     Invalid,
     Success,
@@ -46,7 +48,7 @@ pub enum CompletionCode {
 }
 
 // The four classes of a code byte, xHCI 1.2 table 6-90.
-#[derive(Drop)]
+#[derive(Clone, Copy)]
 pub enum Class {
     Listed,
     Reserved,
@@ -55,7 +57,7 @@ pub enum Class {
 }
 
 // The code that a byte stands for, where one is listed.
-#[derive(Drop)]
+#[derive(Clone, Copy)]
 pub enum Coded {
     Listed(CompletionCode),
     Unlisted,

@@ -3,6 +3,8 @@
 // Both stand on a slot of a segment of the table, with a cycle. The slot after it is 16 bytes further, or, after a segment's last,
 // the base of the next entry's segment, entry 0 coming after the last; where entry 0 is entered again the cycle flips. The ring
 // writes events with its cycle bit; a slot is fresh to the reader if its cycle bit is the reader's.
+#![tactic(auto)]
+
 ghost use Rattle.std.specs.Prelude.{◌≡◌, ◌<◌, ◌≤◌, true};
 ghost use Rattle.guest.specs.Memory.{window, inside};
 ghost use Rattle.event_ring.specs.Ring.{empty, entry_at, good_entry, count_ok, ok_state, next_index, entered, along, refused_at, enter_next, next, configured, add_step, added, added_memory, reader_at, reader_configured, take_refused, take};
@@ -12,13 +14,13 @@ use trb::RawTrbBuffer;
 use trb::event::EventTrb;
 
 // An entry of the segment table.
-#[derive(Drop)]
+#[derive(Clone, Copy)]
 pub struct Entry {
     pub base: u64,
     pub size: u32,
 }
 
-#[derive(Drop)]
+#[derive(Clone, Copy)]
 pub struct EventRing {
     pub ready: bool,
     pub table: u64,
@@ -30,26 +32,26 @@ pub struct EventRing {
 }
 
 // The refusal's number, 0 for none, and the ring afterwards.
-#[derive(Drop)]
+#[derive(Clone, Copy)]
 pub struct Moved {
     pub refusal: u8,
     pub ring: EventRing,
 }
 
 // The reader's state is of the same kind.
-#[derive(Drop)]
+#[derive(Clone, Copy)]
 pub struct EventReader {
     pub state: EventRing,
 }
 
 // The refusal's number, 0 for none, and the reader afterwards.
-#[derive(Drop)]
+#[derive(Clone, Copy)]
 pub struct ReaderMoved {
     pub refusal: u8,
     pub reader: EventReader,
 }
 
-#[derive(Drop)]
+#[derive(Clone, Copy)]
 pub enum Take {
     Event,
     Nothing,
@@ -57,7 +59,7 @@ pub enum Take {
 }
 
 // What was taken, the event's raw bytes where there is one, and the reader afterwards.
-#[derive(Drop)]
+#[derive(Clone, Copy)]
 pub struct Taken {
     pub answer: Take,
     pub trb: RawTrbBuffer,
@@ -179,7 +181,7 @@ impl EventRing {
             table: self.table,
             entries: self.entries,
             index: self.index,
-            place: std::num::wrapping_add_u64(self.place, EventRing::SLOT_SIZE),
+            place: self.place.wrapping_add(EventRing::SLOT_SIZE),
             remaining: self.remaining - 1,
             cycle: self.cycle,
         }

@@ -1,5 +1,7 @@
 // Guest memory: a window, which is a lent slice of bytes and the guest address `start` of its first. No other crate indexes it or
 // works out how far from its start an address is.
+#![tactic(auto)]
+
 pub mod refusal;
 
 ghost use Rattle.std.specs.Prelude.{◌≡◌, ◌+◌, ◌-◌, ◌^◌, ◌<◌, ◌≤◌, min, length};
@@ -12,21 +14,21 @@ ghost use Rattle.guest.specs.Answers.{number_at, trb_read, no_slot, slot_of, slo
 pub const LAST: u64 = 0xffff_ffff_ffff_ffff;
 
 // A number read from memory, or the refusal's number.
-#[derive(Drop)]
+#[derive(Clone, Copy)]
 pub enum Number {
     Value(u64),
     Refused(u8),
 }
 
 // Sixteen bytes, with refusal 0; or a refusal, with sixteen zeros.
-#[derive(Drop)]
+#[derive(Clone, Copy)]
 pub struct TrbAnswer {
     pub refusal: u8,
     pub trb: [u8; 16],
 }
 
 // The same sixteen bytes as numbers, dword 3 and both halves, with refusal 0; or a refusal, with 0s.
-#[derive(Drop)]
+#[derive(Clone, Copy)]
 pub struct SlotAnswer {
     pub refusal: u8,
     pub d3: u64,
@@ -35,7 +37,7 @@ pub struct SlotAnswer {
 }
 
 // Sixteen bytes as four little-endian numbers of four bytes, as xHCI draws a TRB.
-#[derive(Drop)]
+#[derive(Clone, Copy)]
 pub struct Dwords {
     pub d0: u32,
     pub d1: u32,
@@ -130,7 +132,7 @@ fn sixteen(mem: &[u8], at: usize) -> [u8; 16]
     ensures { result ≡ part mem.now at 16 }
 {
     let mut trb = [0u8; 16];
-    bytes::copy(&mem[at..at + 16], &mut trb);
+    trb.copy_from_slice(&mem[at..at + 16]);
     trb
 }
 
@@ -203,7 +205,7 @@ pub fn read_next_slot(start: u64, mem: &[u8], address: u64) -> SlotAnswer
     if n < 16 {
         return no_slot();
     }
-    let offset = std::num::wrapping_sub_u64(address, start);
+    let offset = address.wrapping_sub(start);
     if n - 16 < offset {
         return no_slot();
     }
@@ -214,7 +216,7 @@ fn store(mem: &mut [u8], at: usize, trb: [u8; 16])
     requires { at + 16 ≤ length mem.old }
     ensures { mem.new ≡ write mem.old at trb }
 {
-    bytes::copy(&trb, &mut mem[at..at + 16]);
+    mem[at..at + 16].copy_from_slice(&trb);
 }
 
 // Writes the sixteen bytes and answers 0; or changes nothing and answers the refusal's number.

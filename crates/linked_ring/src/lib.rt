@@ -3,6 +3,8 @@
 // The rule. A TRB is fresh if its cycle bit equals the state. A fresh Link is followed: the place becomes its pointer, and the
 // state flips if its toggle is set. 256 links are followed; what then stands there ends the chase, and if it is one more fresh
 // Link the answer says so.
+#![tactic(auto)]
+
 ghost use Rattle.std.specs.Prelude.{◌≡◌, ◌-◌, ◌<◌};
 ghost use Rattle.guest.specs.Memory.{window};
 ghost use Rattle.linked_ring.specs.Chase.{ring_at, advanced, followed, unnoted, noted, fresh_of, ended, chase_from, chase};
@@ -11,21 +13,21 @@ use guest::refusal;
 use trb::RawTrbBuffer;
 use trb::link::{LinkOrOther, LinkTrb};
 
-#[derive(Drop)]
+#[derive(Clone, Copy)]
 pub struct LinkedRing {
     pub place: u64,
     pub cycle: bool,
 }
 
 // Links followed; whether any of them had pointer bits cleared; whether any had the completion bit.
-#[derive(Drop)]
+#[derive(Clone, Copy)]
 pub struct Notes {
     pub links: u16,
     pub cleared: bool,
     pub completion: bool,
 }
 
-#[derive(Drop)]
+#[derive(Clone, Copy)]
 pub enum Answer {
     Trb,
     NothingNew,
@@ -34,7 +36,7 @@ pub enum Answer {
 }
 
 // The answer, the TRB with its address where there is one, the ring as moved, and the notes.
-#[derive(Drop)]
+#[derive(Clone, Copy)]
 pub struct Chase {
     pub answer: Answer,
     pub trb: RawTrbBuffer,
@@ -95,7 +97,7 @@ impl LinkedRing {
         ensures { result ≡ advanced self }
     {
         LinkedRing {
-            place: std::num::wrapping_add_u64(self.place, LinkedRing::TRB_SIZE),
+            place: self.place.wrapping_add(LinkedRing::TRB_SIZE),
             cycle: self.cycle,
         }
     }

@@ -14,7 +14,7 @@ pub type CLinkedRing = [u64; 2];
 // What a chase came to, as Rust and C hold it: byte 0 of `kind` is 0 for nothing new, 1 for a TRB, 2 for too many links, 3 for a refusal,
 // whose number is in byte 1; `notes` has the links in two bytes, then a byte for each flag.
 #[repr(C)]
-#[derive(Drop)]
+#[derive(Clone, Copy)]
 pub struct CChase {
     pub kind: u64,
     pub address: u64,
@@ -155,7 +155,7 @@ pub extern "C" fn lomvigast_next_trb(start: u64, mem: &[u8], ring: &mut CLinkedR
 pub extern "C" fn lomvigast_advance(ring: &mut CLinkedRing)
     ensures { ring.new ≡ slice_set ring.old 0 (advanced (ring_of ring.old)).place }
 {
-    ring[0] = std::num::wrapping_add_u64(ring[0], LinkedRing::TRB_SIZE);
+    ring[0] = ring[0].wrapping_add(LinkedRing::TRB_SIZE);
 }
 
 #[unsafe(no_mangle)]

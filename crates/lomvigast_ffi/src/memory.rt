@@ -9,7 +9,7 @@ use guest::Number;
 
 // A value, with refusal 0; or a refusal, with 0.
 #[repr(C)]
-#[derive(Drop)]
+#[derive(Clone, Copy)]
 pub struct CNumber {
     pub value: u64,
     pub refusal: u8,

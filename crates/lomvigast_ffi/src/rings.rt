@@ -187,7 +187,7 @@ pub extern "C" fn lomvigast_add(
     if !(plain(ring) & (report % EventRing::SLOT_SIZE == 0)) {
         return add(start, mem, ring, event, report);
     }
-    let next = std::num::wrapping_add_u64(place, EventRing::SLOT_SIZE);
+    let next = place.wrapping_add(EventRing::SLOT_SIZE);
     if next == report {
         return add(start, mem, ring, event, report);
     }
@@ -245,7 +245,7 @@ pub extern "C" fn lomvigast_take(
     }
     let remaining = reader[REMAINING] - 1;
     *out = [slot.low, slot.high];
-    let next = std::num::wrapping_add_u64(place, EventRing::SLOT_SIZE);
+    let next = place.wrapping_add(EventRing::SLOT_SIZE);
     step(reader, next, remaining);
     0
 }

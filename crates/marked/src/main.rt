@@ -1,5 +1,7 @@
 // Runs the marked cases of document 01, in a window that begins at 0 and in one that begins high, and writes what comes out, then the completion codes by name and number. The file stdout has what
 // the document and xHCI say.
+#![tactic(auto)]
+
 use codes::CompletionCode;
 use event_ring::EventRing;
 use libc::STDOUT_FILENO;
@@ -122,7 +124,7 @@ fn parsers() {
 
 // Addresses in a window are told from its start.
 fn at(start: u64, offset: u64) -> u64 {
-    std::num::wrapping_add_u64(start, offset)
+    start.wrapping_add(offset)
 }
 
 // A Link at the window's start that points to itself, fresh to a reader with state 1, by the eight bytes behind its pointer.

@@ -43,7 +43,7 @@ fn digits(out: &mut [u8], at: usize, n: u64, least: usize) -> usize {
     if out.len() - count < at {
         return at;
     }
-    bytes::copy(&text[..count], &mut out[at..at + count]);
+    out[at..at + count].copy_from_slice(&text[..count]);
     at + count
 }
 

@@ -3,6 +3,8 @@
 // A line is a letter for its kind, the input, a colon and the answer; the head of the file says the forms. The input as it was read and
 // the core's answer are put into the same text, and the two texts are compared: so a line that cannot be read differs. A small letter
 // begins a line whose answer is wrong on purpose: it must differ, so that a comparison which finds nothing is seen.
+#![tactic(auto)]
+
 mod answer;
 mod input;
 mod rings;
@@ -41,7 +43,7 @@ fn room() -> [u8; 0x10_0000]
 
 fn count(counts: &mut Counts, place: u8) {
     let at = (place % 32) as usize;
-    counts[at] = std::num::wrapping_add_u64(counts[at], 1);
+    counts[at] = counts[at].wrapping_add(1);
 }
 
 fn show(label: &[u8], counts: &Counts, place: u8) {
@@ -58,7 +60,7 @@ fn kind(letter: u8) -> u8 {
 }
 
 // The forms of a line's input and answer (answer.rt).
-#[derive(Drop)]
+#[derive(Clone, Copy)]
 pub struct LineForms {
     pub input: u64,
     pub answer: u64,
@@ -205,8 +207,8 @@ fn kinds(labels: &[u8], counts: &Counts) {
 }
 
 fn totals(counts: &mut Counts) {
-    let judged = std::num::wrapping_add_u64(counts[0], counts[27]);
-    counts[30] = std::num::wrapping_add_u64(judged, counts[31]);
+    let judged = counts[0].wrapping_add(counts[27]);
+    counts[30] = judged.wrapping_add(counts[31]);
     show(b"replay: ", counts, CASES);
     show(b" cases read, ", counts, AGREE);
     show(b" agree, ", counts, WRONG);

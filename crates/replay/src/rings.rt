@@ -74,7 +74,7 @@ fn fnv(sum: u64, b: u8) -> u64 {
     let shifted = n % 0x100_0000 * 0x100_0000_0000;
     let high = n / 0x1_0000_0000 % 0x1_0000_0000 * 0x1b3 % 0x1_0000_0000 * 0x1_0000_0000;
     let low = n % 0x1_0000_0000 * 0x1b3;
-    std::num::wrapping_add_u64(std::num::wrapping_add_u64(shifted, high), low)
+    shifted.wrapping_add(high).wrapping_add(low)
 }
 
 // FNV-1a, 64 bits, of all bytes.

@@ -7,44 +7,44 @@ use crate::{RawTrbBuffer, TrbParseError};
 use codes::trb_types;
 use guest::refusal;
 
-#[derive(Drop)]
+#[derive(Clone, Copy)]
 pub struct DisableSlotCommandTrbData {
     pub slot_id: u8,
 }
 
-#[derive(Drop)]
+#[derive(Clone, Copy)]
 pub struct AddressDeviceCommandTrbData {
     pub input_context_pointer: u64,
     pub block_set_address_request: bool,
     pub slot_id: u8,
 }
 
-#[derive(Drop)]
+#[derive(Clone, Copy)]
 pub struct ConfigureEndpointCommandTrbData {
     pub input_context_pointer: u64,
     pub deconfigure: bool,
     pub slot_id: u8,
 }
 
-#[derive(Drop)]
+#[derive(Clone, Copy)]
 pub struct EvaluateContextCommandTrbData {
     pub input_context_pointer: u64,
     pub slot_id: u8,
 }
 
-#[derive(Drop)]
+#[derive(Clone, Copy)]
 pub struct ResetEndpointCommandTrbData {
     pub slot_id: u8,
     pub endpoint_id: u8,
 }
 
-#[derive(Drop)]
+#[derive(Clone, Copy)]
 pub struct StopEndpointCommandTrbData {
     pub endpoint_id: u8,
     pub slot_id: u8,
 }
 
-#[derive(Drop)]
+#[derive(Clone, Copy)]
 pub struct SetTrDequeuePointerCommandTrbData {
     pub dequeue_cycle_state: bool,
     pub stream_context_type: u8,
@@ -54,12 +54,12 @@ pub struct SetTrDequeuePointerCommandTrbData {
     pub slot_id: u8,
 }
 
-#[derive(Drop)]
+#[derive(Clone, Copy)]
 pub struct ResetDeviceCommandTrbData {
     pub slot_id: u8,
 }
 
-#[derive(Drop)]
+#[derive(Clone, Copy)]
 pub enum CommandTrbVariant {
     NoOp,
     EnableSlot,
@@ -76,7 +76,7 @@ pub enum CommandTrbVariant {
 }
 
 // A command, with raw 0; or Unrecognized, with the raw bytes.
-#[derive(Drop)]
+#[derive(Clone, Copy)]
 pub struct ParsedCommand {
     pub variant: CommandTrbVariant,
     pub raw: RawTrbBuffer,

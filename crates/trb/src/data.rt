@@ -7,7 +7,7 @@ use crate::transfer::{DataStageTrb, NormalTrb};
 use guest::refusal;
 
 // What a Normal and a Data Stage TRB say of their data.
-#[derive(Drop)]
+#[derive(Clone, Copy)]
 pub struct TrbDmaInfo {
     pub data_pointer: u64,
     pub transfer_length: u32,

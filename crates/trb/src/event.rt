@@ -8,7 +8,7 @@ use crate::{RawTrbBuffer, TrbParseError};
 use codes::{Coded, CompletionCode, trb_types};
 use guest::{Dwords, TrbAnswer, refusal};
 
-#[derive(Drop)]
+#[derive(Clone, Copy)]
 pub struct TransferEventTrbData {
     pub trb_pointer: u64,
     // Of 24 bits.
@@ -19,7 +19,7 @@ pub struct TransferEventTrbData {
     pub slot_id: u8,
 }
 
-#[derive(Drop)]
+#[derive(Clone, Copy)]
 pub struct CommandCompletionEventTrbData {
     // Its low four bits are 0.
     pub command_trb_pointer: u64,
@@ -29,26 +29,26 @@ pub struct CommandCompletionEventTrbData {
     pub slot_id: u8,
 }
 
-#[derive(Drop)]
+#[derive(Clone, Copy)]
 pub struct PortStatusChangeEventTrbData {
     pub port_id: u8,
 }
 
-#[derive(Drop)]
+#[derive(Clone, Copy)]
 pub enum EventTrb {
     Transfer(TransferEventTrbData),
     CommandCompletion(CommandCompletionEventTrbData),
     PortStatusChange(PortStatusChangeEventTrbData),
 }
 
-#[derive(Drop)]
+#[derive(Clone, Copy)]
 pub enum EventVariant {
     Event(EventTrb),
     Unrecognized(TrbParseError),
 }
 
 // An event, with raw 0; or Unrecognized, with the raw bytes.
-#[derive(Drop)]
+#[derive(Clone, Copy)]
 pub struct ParsedEvent {
     pub variant: EventVariant,
     pub raw: RawTrbBuffer,

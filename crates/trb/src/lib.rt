@@ -1,4 +1,6 @@
 // Transfer Request Blocks (xHCI 4.11, 6.4): sixteen bytes taken apart and put together, a module for each kind.
+#![tactic(auto)]
+
 pub mod command;
 pub mod data;
 pub mod event;
@@ -13,7 +15,7 @@ ghost use Rattle.trb.specs.Trb.{type_of, cycle_of, pointer_of, aligned_of};
 pub type RawTrbBuffer = [u8; 16];
 
 // Why a TRB is not taken apart: the refusal's number, and beside 9 and 10 the TRB's type.
-#[derive(Drop)]
+#[derive(Clone, Copy)]
 pub struct TrbParseError {
     pub number: u8,
     pub trb_type: u8,

@@ -5,7 +5,7 @@ ghost use Rattle.trb.specs.Links.{link_of};
 use crate::RawTrbBuffer;
 use codes::trb_types;
 
-#[derive(Drop)]
+#[derive(Clone, Copy)]
 pub struct LinkTrb {
     // With the low four bits cleared.
     pub ring_segment_pointer: u64,
@@ -15,7 +15,7 @@ pub struct LinkTrb {
     pub interrupt_on_completion: bool,
 }
 
-#[derive(Drop)]
+#[derive(Clone, Copy)]
 pub enum LinkOrOther {
     Link(LinkTrb),
     Other,

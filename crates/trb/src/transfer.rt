@@ -7,7 +7,7 @@ use crate::{RawTrbBuffer, TrbParseError};
 use codes::trb_types;
 use guest::refusal;
 
-#[derive(Drop)]
+#[derive(Clone, Copy)]
 pub struct NormalTrb {
     pub data_pointer: u64,
     // Of 17 bits.
@@ -18,7 +18,7 @@ pub struct NormalTrb {
     pub immediate_data: bool,
 }
 
-#[derive(Drop)]
+#[derive(Clone, Copy)]
 pub struct SetupStageTrb {
     pub request_type: u8,
     pub request: u8,
@@ -28,7 +28,7 @@ pub struct SetupStageTrb {
     pub interrupt_on_completion: bool,
 }
 
-#[derive(Drop)]
+#[derive(Clone, Copy)]
 pub struct DataStageTrb {
     pub data_pointer: u64,
     // Of 17 bits.
@@ -40,14 +40,14 @@ pub struct DataStageTrb {
     pub direction: bool,
 }
 
-#[derive(Drop)]
+#[derive(Clone, Copy)]
 pub struct StatusStageTrb {
     pub chain: bool,
     pub interrupt_on_completion: bool,
     pub direction: bool,
 }
 
-#[derive(Drop)]
+#[derive(Clone, Copy)]
 pub struct EventDataTrb {
     pub event_data: u64,
     pub chain: bool,
@@ -55,13 +55,13 @@ pub struct EventDataTrb {
 }
 
 // A driver never sets the chain bit here (xHCI 4.11.7); whether it did can be seen.
-#[derive(Drop)]
+#[derive(Clone, Copy)]
 pub struct NoOpTrb {
     pub chain: bool,
     pub interrupt_on_completion: bool,
 }
 
-#[derive(Drop)]
+#[derive(Clone, Copy)]
 pub enum TransferTrbVariant {
     Normal(NormalTrb),
     SetupStage(SetupStageTrb),
@@ -74,7 +74,7 @@ pub enum TransferTrbVariant {
 }
 
 // A transfer TRB, with raw 0; or Unrecognized, with the raw bytes.
-#[derive(Drop)]
+#[derive(Clone, Copy)]
 pub struct ParsedTransfer {
     pub variant: TransferTrbVariant,
     pub raw: RawTrbBuffer,

@@ -1,6 +1,8 @@
 // TRBs and codes over the C calling convention, as lomvigast_ffi has memory and the rings: apart from it so that the two are proved at the
 // same time, and so that what is quick is inlined into its export. A TRB comes in as two numbers; an answer goes into words that the
 // caller lends, which are then those of Rust's enum and of C's union (include/lomvigast.h), or stands in registers.
+#![tactic(auto)]
+
 pub mod commands;
 pub mod events;
 pub mod numbers;

@@ -8,7 +8,7 @@ use guest::refusal;
 
 // A number, with refusal 0; or a refusal, with 0.
 #[repr(C)]
-#[derive(Drop)]
+#[derive(Clone, Copy)]
 pub struct CCoded {
     pub refusal: u8,
     pub code: u8,

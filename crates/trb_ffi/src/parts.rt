@@ -12,7 +12,7 @@ use trb::link::{LinkOrOther, LinkTrb};
 
 // A Link; or, with `link` false and 0s, any other TRB.
 #[repr(C)]
-#[derive(Drop)]
+#[derive(Clone, Copy)]
 pub struct CLink {
     pub pointer: u64,
     pub link: bool,
@@ -23,7 +23,7 @@ pub struct CLink {
 
 // How far from the window's start the part begins, and its length; or the refusal's number, with 0s.
 #[repr(C)]
-#[derive(Drop)]
+#[derive(Clone, Copy)]
 pub struct CPart {
     pub offset: u64,
     pub length: u32,

@@ -16,7 +16,7 @@ use trb::event::{
 
 // A TRB as two numbers; or, where the event is refused, 0 and the refusal's number.
 #[repr(C)]
-#[derive(Drop)]
+#[derive(Clone, Copy)]
 pub struct CTrb {
     pub low: u64,
     pub high: u64,

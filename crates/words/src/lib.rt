@@ -1,4 +1,6 @@
 // What crosses to Rust and C as words of eight bytes: words that a caller lends, and an event in three of them.
+#![tactic(auto)]
+
 pub mod event;
 
 ghost use Rattle.std.specs.Prelude.{◌≡◌, ◌<◌};
