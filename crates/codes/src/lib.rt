@@ -65,6 +65,7 @@ pub enum Coded {
 
 impl CompletionCode {
     // The number of a code, xHCI 1.2 table 6-90.
+    #[tactic(auto, unfolding(crate::specs::Codes::number_of))]
     pub fn number(self) -> u8
         ensures { result ≡ number_of self }
     {
@@ -110,6 +111,7 @@ impl CompletionCode {
 }
 
 // The code of a byte, the other way round.
+#[tactic(auto, unfolding(crate::specs::Codes::code_of, crate::specs::Codes::number_of))]
 pub fn code_of(byte: u8) -> Coded
     ensures { result ≡ code_of byte }
 {
@@ -155,6 +157,7 @@ pub fn code_of(byte: u8) -> Coded
 }
 
 // The class of a byte, xHCI 1.2 table 6-90.
+#[tactic(auto, unfolding(crate::specs::Codes::class_of))]
 pub fn class_of(byte: u8) -> Class
     ensures { result ≡ class_of byte }
 {

@@ -1,8 +1,8 @@
 -- What the answers of this crate's functions say. Assumes nothing.
-use Rattle.std.proofs.Common.{◌≡◌, ℕ, Bool, true, false, List, [], ◌∷◌, replicate, sym, refl, ap, ◌∙◌, arith}
+use Rattle.std.proofs.Common.{◌≡◌, ℕ, Bool, true, false, [], ◌∷◌, replicate, refl, ap, arith}
 use Rattle.guest.specs.Judge.{judge}
 use Rattle.guest.specs.Memory.{Memory, inside, trb_at}
-use Rattle.guest.specs.Answers.{touches, trb_read, no_slot, slot_of, slot_read}
+use Rattle.guest.specs.Answers.{trb_read, no_slot, slot_of, slot_read}
 use Rattle.guest.specs.Fields.{dword, low_of, high_of}
 use Rattle.guest.specs.declared.TrbAnswer.{TrbAnswer}
 use Rattle.guest.specs.declared.SlotAnswer.{SlotAnswer}

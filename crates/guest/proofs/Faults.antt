@@ -1,5 +1,5 @@
 -- What a test says of a fact, and what a judgement's number says of the faults in their order. Assumes nothing.
-use Rattle.std.proofs.Common.{◌≡◌, ℕ, ◌+◌, ◌-◌, ◌^◌, ◌<◌, ◌≤◌, Bool, true, false, cond, ◌&&◌, eqb, ltb, leb, List, [], ◌∷◌, length, sym, refl, ◌∙◌, true≢false, arith, ltb-false, ltb-true, eqb-true, leb-false, leb-true}
+use Rattle.std.proofs.Common.{◌≡◌, ℕ, ◌+◌, ◌-◌, ◌^◌, ◌<◌, ◌≤◌, Bool, true, false, cond, ◌&&◌, eqb, ltb, leb, ◌∷◌, length, sym, refl, ◌∙◌, true≢false, arith, ltb-false, ltb-true, eqb-true, leb-false, leb-true}
 use borrow.Author.Tests.{eqb-false}
 use Rattle.guest.specs.Memory.{Memory, inside}
 use Rattle.guest.specs.Faults.{Not, Faults, FirstOf, none, this, later, Inside}

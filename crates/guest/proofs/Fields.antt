@@ -1,5 +1,5 @@
 -- Laws of dwords and of the fields in them: bytes and dwords are one thing. Assumes nothing.
-use Rattle.std.proofs.Common.{◌≡◌, ℕ, zero, suc, ◌+◌, ◌-◌, ◌*◌, ◌/◌, ◌%◌, ◌^◌, ◌<◌, ◌≤◌, List, [], ◌∷◌, ◌++◌, length, get_or, take, drop, sym, refl, ap, ◌∙◌, ap₂, append_assoc, append-nil, mod-eq_of_lt, mul_assoc, suc-add, pow-suc, zero-add, mul-suc, div-one, add-one, arith, length-drop, take-append-drop, take_all, drop-cons, drop-drop, pow-add, shr-shr}
+use Rattle.std.proofs.Common.{◌≡◌, ℕ, zero, suc, ◌+◌, ◌-◌, ◌*◌, ◌/◌, ◌%◌, ◌^◌, ◌<◌, ◌≤◌, List, [], ◌∷◌, ◌++◌, length, take, drop, sym, refl, ap, ◌∙◌, ap₂, append_assoc, append-nil, mod-eq_of_lt, mul_assoc, suc-add, pow-suc, zero-add, mul-suc, div-one, add-one, arith, length-drop, take-append-drop, take_all, drop-cons, drop-drop, pow-add, shr-shr}
 use native.Mathlib.Nat.{mod-one, div-div-eq-div-mul, pow-succ', one-le-pow, add-mul-div_left, add-mul-mod_self_left, div-eq_of_lt}
 use lib.Arith.{mod-mul}
 use lib.Pow.{field as pow-field}

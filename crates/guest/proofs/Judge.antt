@@ -1,5 +1,5 @@
 -- Laws of judgements. Assumes nothing.
-use Rattle.std.proofs.Common.{◌≡◌, ℕ, zero, suc, ◌<◌, Bool, true, false, cond, eqb, List, [], ◌∷◌, ◌++◌, sym, refl, ap, ◌∙◌, arith, ne_eqb}
+use Rattle.std.proofs.Common.{◌≡◌, ℕ, ◌<◌, true, false, cond, eqb, [], ◌∷◌, ◌++◌, sym, refl, ap, ◌∙◌, arith, ne_eqb}
 use Rattle.guest.specs.Judge.{Tests, judge, refusal_of}
 
 -- whatever is made of a judgement may be made of its answers

@@ -1,10 +1,7 @@
-use Rattle.std.proofs.Common.{rules, ◌≡◌, ◌+◌, ◌-◌, ◌^◌, ◌<◌, ◌≤◌, min, length, ℕ, ◌*◌, ◌/◌, ◌%◌, Bool, true, false, nat_eq, nat_lt, List, [], ◌∷◌, ◌++◌, slice_index_or, slice_set, bit_and, bit_or, Fits, w8, w32, w64, Bor, MutBor}
-use Rattle.guest.specs.Bytes.{le, part, write}
-use Rattle.guest.specs.Memory.{window, inside}
-use Rattle.guest.specs.Fields.{dwords_of, bytes_of_dwords, low_of, high_of, whole_of}
-use Rattle.guest.specs.Answers.{number_at, trb_read, no_slot, slot_of, slot_read, write_number, write_memory, offset_of, part_of}
+-- The two halves.
+use Rattle.std.proofs.Common.{arith}
+use Rattle.guest.proofs.Bytes.{le_add}
 use Rattle.guest.proofs.eight.Goals as goal
 
--- src/lib.rt:91:1
 pub returns : goal.returns
-returns c = ?
+returns c = omega (arith, le_add 4 4 c.args.mem.now c.args.at)

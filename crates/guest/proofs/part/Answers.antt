@@ -1,26 +1,25 @@
-use Rattle.std.proofs.Common.{rules, ◌≡◌, ◌+◌, ◌-◌, ◌^◌, ◌<◌, ◌≤◌, min, length, ℕ, ◌*◌, ◌/◌, ◌%◌, Bool, true, false, nat_eq, nat_lt, List, [], ◌∷◌, ◌++◌, slice_index_or, slice_set, bit_and, bit_or, Fits, w8, w32, w64, Bor, MutBor}
-use Rattle.guest.specs.Bytes.{le, part, write}
-use Rattle.guest.specs.Memory.{window, inside}
-use Rattle.guest.specs.Fields.{dwords_of, bytes_of_dwords, low_of, high_of, whole_of}
-use Rattle.guest.specs.Answers.{number_at, trb_read, no_slot, slot_of, slot_read, write_number, write_memory, offset_of, part_of}
+-- By the test that `inside` made.
+use Rattle.std.proofs.Common.{refl, arith}
+use native.Mathlib.Nat.{add-sub_cancel_left}
+use Rattle.guest.specs.Judge.{judge}
+use Rattle.guest.specs.Bytes.{part}
+use Rattle.guest.proofs.Tests.{told}
+use Rattle.guest.proofs.Memory.{inside_within}
 use Rattle.guest.proofs.part.Goals as goal
 
--- src/lib.rt:251:9
 pub returns-then-not-inside : goal.returns-then-not-inside
-returns-then-not-inside c = ?
+unfolding judge
+returns-then-not-inside c = rw (told c.inside.ensures c.if-not-inside.true) (refl, refl)
 
--- src/lib.rt:253:15
 pub overflow_sub-at : goal.overflow_sub-at
-overflow_sub-at c = ?
+overflow_sub-at c = (inside_within _ _ _ (told c.inside.ensures c.if-not-inside.false)).from
 
--- src/lib.rt:254:14
 pub overflow_add-result : goal.overflow_add-result
-overflow_add-result c = ?
+overflow_add-result c = omega (arith, (inside_within _ _ _ (told c.inside.ensures c.if-not-inside.false)).fits)
 
--- src/lib.rt:254:5
 pub slice_bounds-result-end-2 : goal.slice_bounds-result-end-2
-slice_bounds-result-end-2 c = ?
+slice_bounds-result-end-2 c = omega (arith, (inside_within _ _ _ (told c.inside.ensures c.if-not-inside.false)).fits)
 
--- src/lib.rt:246:1
 pub returns : goal.returns
-returns c = ?
+unfolding judge part
+returns c = rw (told c.inside.ensures c.if-not-inside.false, add-sub_cancel_left) (refl, refl)

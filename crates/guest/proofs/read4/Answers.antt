@@ -1,22 +1,21 @@
-use Rattle.std.proofs.Common.{rules, ◌≡◌, ◌+◌, ◌-◌, ◌^◌, ◌<◌, ◌≤◌, min, length, ℕ, ◌*◌, ◌/◌, ◌%◌, Bool, true, false, nat_eq, nat_lt, List, [], ◌∷◌, ◌++◌, slice_index_or, slice_set, bit_and, bit_or, Fits, w8, w32, w64, Bor, MutBor}
-use Rattle.guest.specs.Bytes.{le, part, write}
-use Rattle.guest.specs.Memory.{window, inside}
-use Rattle.guest.specs.Fields.{dwords_of, bytes_of_dwords, low_of, high_of, whole_of}
-use Rattle.guest.specs.Answers.{number_at, trb_read, no_slot, slot_of, slot_read, write_number, write_memory, offset_of, part_of}
+-- By the test that `inside` made.
+use Rattle.std.proofs.Common.{ap}
+use Rattle.guest.specs.Judge.{judge}
+use Rattle.guest.specs.declared.Number.TheVariants.{Value}
+use Rattle.guest.proofs.Tests.{told}
+use Rattle.guest.proofs.Memory.{inside_within}
 use Rattle.guest.proofs.read4.Goals as goal
 
--- src/lib.rt:114:34
 pub overflow_sub-address : goal.overflow_sub-address
-overflow_sub-address c = ?
+overflow_sub-address c = (inside_within _ _ _ (told c.inside.ensures c.if-inside.true)).from
 
--- src/lib.rt:114:23
 pub four-requires : goal.four-requires
-four-requires c = ?
+four-requires c = (inside_within _ _ _ (told c.inside.ensures c.if-inside.true)).fits
 
--- src/lib.rt:110:1
 pub returns-then-inside : goal.returns-then-inside
-returns-then-inside c = ?
+unfolding judge
+returns-then-inside c = rw (told c.inside.ensures c.if-inside.true) (ap Value c.four.ensures)
 
--- src/lib.rt:110:1
 pub returns-else-inside : goal.returns-else-inside
-returns-else-inside c = ?
+unfolding judge
+returns-else-inside c = rw (told c.inside.ensures c.if-inside.false)

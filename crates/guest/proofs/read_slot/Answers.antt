@@ -1,22 +1,19 @@
-use Rattle.std.proofs.Common.{rules, ◌≡◌, ◌+◌, ◌-◌, ◌^◌, ◌<◌, ◌≤◌, min, length, ℕ, ◌*◌, ◌/◌, ◌%◌, Bool, true, false, nat_eq, nat_lt, List, [], ◌∷◌, ◌++◌, slice_index_or, slice_set, bit_and, bit_or, Fits, w8, w32, w64, Bor, MutBor}
-use Rattle.guest.specs.Bytes.{le, part, write}
-use Rattle.guest.specs.Memory.{window, inside}
-use Rattle.guest.specs.Fields.{dwords_of, bytes_of_dwords, low_of, high_of, whole_of}
-use Rattle.guest.specs.Answers.{number_at, trb_read, no_slot, slot_of, slot_read, write_number, write_memory, offset_of, part_of}
+-- By the test that `inside` made.
+use Rattle.guest.specs.Judge.{judge}
+use Rattle.guest.proofs.Tests.{told}
+use Rattle.guest.proofs.Memory.{inside_within}
 use Rattle.guest.proofs.read_slot.Goals as goal
 
--- src/lib.rt:182:9
 pub returns-then-not-inside : goal.returns-then-not-inside
-returns-then-not-inside c = ?
+unfolding judge
+returns-then-not-inside c = rw (told c.inside.ensures c.if-not-inside.true) c.no_slot.ensures
 
--- src/lib.rt:184:16
 pub overflow_sub-address : goal.overflow_sub-address
-overflow_sub-address c = ?
+overflow_sub-address c = (inside_within _ _ _ (told c.inside.ensures c.if-not-inside.false)).from
 
--- src/lib.rt:184:5
 pub slot-requires : goal.slot-requires
-slot-requires c = ?
+slot-requires c = (inside_within _ _ _ (told c.inside.ensures c.if-not-inside.false)).fits
 
--- src/lib.rt:178:1
 pub returns : goal.returns
-returns c = ?
+unfolding judge
+returns c = rw (told c.inside.ensures c.if-not-inside.false) c.slot.ensures

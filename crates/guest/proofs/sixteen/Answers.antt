@@ -1,10 +1,11 @@
-use Rattle.std.proofs.Common.{rules, ◌≡◌, ◌+◌, ◌-◌, ◌^◌, ◌<◌, ◌≤◌, min, length, ℕ, ◌*◌, ◌/◌, ◌%◌, Bool, true, false, nat_eq, nat_lt, List, [], ◌∷◌, ◌++◌, slice_index_or, slice_set, bit_and, bit_or, Fits, w8, w32, w64, Bor, MutBor}
-use Rattle.guest.specs.Bytes.{le, part, write}
-use Rattle.guest.specs.Memory.{window, inside}
-use Rattle.guest.specs.Fields.{dwords_of, bytes_of_dwords, low_of, high_of, whole_of}
-use Rattle.guest.specs.Answers.{number_at, trb_read, no_slot, slot_of, slot_read, write_number, write_memory, offset_of, part_of}
+-- The part that is copied.
+use Rattle.std.proofs.Common.{ℕ, ap, ◌∙◌, drop, take}
+use native.Mathlib.Nat.{add-sub_cancel_left}
+use Rattle.guest.specs.Bytes.{part}
 use Rattle.guest.proofs.sixteen.Goals as goal
 
--- src/lib.rt:130:1
 pub returns : goal.returns
-returns c = ?
+unfolding part
+returns c =
+    c.copy_from_slice.ensures.after
+    ∙ ap (λ (n : ℕ). take n (drop c.args.at c.args.mem.now)) (add-sub_cancel_left c.args.at 16)

@@ -1,10 +1,17 @@
-use Rattle.std.proofs.Common.{rules, ◌≡◌, ◌+◌, ◌-◌, ◌^◌, ◌<◌, ◌≤◌, min, length, ℕ, ◌*◌, ◌/◌, ◌%◌, Bool, true, false, nat_eq, nat_lt, List, [], ◌∷◌, ◌++◌, slice_index_or, slice_set, bit_and, bit_or, Fits, w8, w32, w64, Bor, MutBor}
-use Rattle.guest.specs.Bytes.{le, part, write}
-use Rattle.guest.specs.Memory.{window, inside}
-use Rattle.guest.specs.Fields.{dwords_of, bytes_of_dwords, low_of, high_of, whole_of}
-use Rattle.guest.specs.Answers.{number_at, trb_read, no_slot, slot_of, slot_read, write_number, write_memory, offset_of, part_of}
+-- Each number is one in the sixteen bytes.
+use Rattle.std.proofs.Common.{add-zero, arith}
+use Rattle.guest.proofs.Bytes.{le_part}
 use Rattle.guest.proofs.slot.Goals as goal
 
--- src/lib.rt:166:1
 pub returns : goal.returns
-returns c = ?
+returns c =
+    let a = c.args in
+    rw (
+      c.eight-2.ensures,
+      c.eight.ensures,
+      c.four.ensures,
+      le_part 4 a.mem.now a.at 16 12 (omega arith),
+      le_part 8 a.mem.now a.at 16 0 (omega arith),
+      le_part 8 a.mem.now a.at 16 8 (omega arith),
+      add-zero,
+    )

@@ -1,10 +1,7 @@
-use Rattle.std.proofs.Common.{rules, ◌≡◌, ◌+◌, ◌-◌, ◌^◌, ◌<◌, ◌≤◌, min, length, ℕ, ◌*◌, ◌/◌, ◌%◌, Bool, true, false, nat_eq, nat_lt, List, [], ◌∷◌, ◌++◌, slice_index_or, slice_set, bit_and, bit_or, Fits, w8, w32, w64, Bor, MutBor}
-use Rattle.guest.specs.Bytes.{le, part, write}
-use Rattle.guest.specs.Memory.{window, inside}
-use Rattle.guest.specs.Fields.{dwords_of, bytes_of_dwords, low_of, high_of, whole_of}
-use Rattle.guest.specs.Answers.{number_at, trb_read, no_slot, slot_of, slot_read, write_number, write_memory, offset_of, part_of}
+-- The sixteen bytes in the part that they are copied to.
+use Rattle.std.proofs.Common.{rules}
+use Rattle.guest.proofs.Bytes.{stored}
 use Rattle.guest.proofs.store.Goals as goal
 
--- src/lib.rt:215:1
 pub returns : goal.returns
-returns c = ?
+returns c = rw c.copy_from_slice.ensures.after (stored 16 c.args.at c.args.mem.now c.requires c.args.trb (search rules))

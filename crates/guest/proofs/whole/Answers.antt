@@ -1,10 +1,8 @@
-use Rattle.std.proofs.Common.{rules, ◌≡◌, ◌+◌, ◌-◌, ◌^◌, ◌<◌, ◌≤◌, min, length, ℕ, ◌*◌, ◌/◌, ◌%◌, Bool, true, false, nat_eq, nat_lt, List, [], ◌∷◌, ◌++◌, slice_index_or, slice_set, bit_and, bit_or, Fits, w8, w32, w64, Bor, MutBor}
-use Rattle.guest.specs.Bytes.{le, part, write}
-use Rattle.guest.specs.Memory.{window, inside}
-use Rattle.guest.specs.Fields.{dwords_of, bytes_of_dwords, low_of, high_of, whole_of}
-use Rattle.guest.specs.Answers.{number_at, trb_read, no_slot, slot_of, slot_read, write_number, write_memory, offset_of, part_of}
+-- The bytes of each number, one division at a time.
+use native.Mathlib.Nat.{div-div-eq-div-mul}
+use Rattle.guest.specs.Fields.{bytes_of}
 use Rattle.guest.proofs.whole.Goals as goal
 
--- src/lib.rt:305:1
 pub returns : goal.returns
-returns c = ?
+unfolding bytes_of
+returns c = simp div-div-eq-div-mul
