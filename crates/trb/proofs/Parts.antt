@@ -3,7 +3,6 @@ use mathlib.Core.Path.{◌≡◌, refl, sym, ◌∙◌}
 use mathlib.Core.Bool.{Bool, true, false, cond, true≢false}
 use mathlib.Core.List.{[], ◌∷◌}
 use Prim.{tt}
-use Prim.Native.Nat.{ℕ}
 use lib.Dec.{lit<}
 use borrow.Author.Tests.{ne_eqb}
 use Rattle.guest.specs.Faults.{Not, FirstOf, none, this, later, Inside}

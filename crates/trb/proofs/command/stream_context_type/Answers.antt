@@ -1,0 +1,7 @@
+-- Bits of one byte.
+use Rattle.std.proofs.Common.{arith, rules, lit≤}
+use Rattle.trb.proofs.Raw.{Raw, byte_field}
+use Rattle.trb.proofs.command.stream_context_type.Goals as goal
+
+pub returns : goal.returns
+returns c = let b : Raw c.args.raw = λ i. search rules in omega (arith, byte_field c.args.raw b 0 1 3 (lit≤ tt))
