@@ -1,4 +1,3 @@
-pub mod Lent
 pub mod Links
 pub mod FromZero
 pub mod Further
