@@ -1,20 +1,20 @@
 -- The refusals of configure, add and take are document 01's, said a second time as facts (specs/Faults.antt): for every input the number is that
 -- of the first fault. Assumes nothing.
 use Prim.{tt}
-use Rattle.std.proofs.Common.{◌≡◌, ℕ, ◌+◌, ◌-◌, ◌*◌, ◌%◌, ◌^◌, ◌<◌, ◌≤◌, Bool, true, false, cond, not, ◌&&◌, eqb, ltb, leb, ◌⊎◌, List, [], ◌∷◌, ◌++◌, length, replicate, sym, refl, ap, ◌∙◌, subst, inl, inr, true≢false, add-zero, div-one, arith, ltb-false, ltb-true, le-ltb, lt-ltb, eq-eqb, ne_eqb, eqb-true, leb-false, leb-true}
+use Rattle.std.proofs.Common.{◌≡◌, ℕ, ◌+◌, ◌*◌, ◌%◌, ◌^◌, Bool, true, false, cond, not, eqb, ltb, [], ◌∷◌, ◌++◌, length, replicate, sym, refl, ap, ◌∙◌, subst, inl, inr, true≢false, div-one, arith, le-ltb, lt-ltb, eqb-true}
 use mathlib.Core.Bool.{beq}
 use borrow.Author.Tests.{eqb-false}
-use Rattle.guest.specs.Judge.{Tests, judge, refusal_of}
+use Rattle.guest.specs.Judge.{judge, refusal_of}
 use Rattle.guest.specs.Memory.{Memory, inside, le, part, trb_at, write}
 use Rattle.guest.proofs.Judge.{judge_refusal, judge_by, judge_passes, answer_passes}
-use Rattle.guest.specs.Faults.{Not, Faults, FirstOf, none, this, later, Inside}
+use Rattle.guest.specs.Faults.{Not, FirstOf, none, this, later, Inside}
 use Rattle.guest.proofs.Faults.{Says, says_eq, says_le, says_lt, says_bit, says_both, says_as, says_inside, asks, asks_where, asks_not}
 use Rattle.guest.proofs.Memory.{Within, inside_within, write_length, write_there, write_elsewhere}
 use Rattle.trb.specs.Trb.{cycle_of}
-use Rattle.trb.specs.Events.{valid, event_tests, event_bytes}
+use Rattle.trb.specs.Events.{valid, event_bytes}
 use Rattle.trb.proofs.OneEncoding.{bytes_length}
 use Rattle.trb.specs.declared.event.EventTrb.{EventTrb}
-use Rattle.event_ring.specs.Ring.{entry_at, good_entry, count_ok, ok_state, last, next_index, next_state, entry_tests, next_tests, configure_tests, started, configured, refused_at, moved_to, full, step_tests, add_tests, added, added_memory, empty, reader_configured, fresh_of, take_tests, take_refused, take, number_of}
+use Rattle.event_ring.specs.Ring.{entry_at, good_entry, count_ok, ok_state, last, next_index, next_state, entry_tests, next_tests, configure_tests, started, configured, refused_at, moved_to, full, add_tests, added, added_memory, empty, reader_configured, fresh_of, take_tests, take_refused, take, number_of}
 use Rattle.event_ring.specs.Faults.{Allowed, Counted, Limits, Fits, Last, Full, Fresh, configure_faults, add_faults, take_faults, refused_with, Writes}
 use Rattle.event_ring.specs.Faults as paper
 use Rattle.event_ring.specs.declared.EventRing.{EventRing}

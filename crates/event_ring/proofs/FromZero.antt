@@ -1,17 +1,17 @@
 -- Over a window that begins at 0 the event ring is document 01's: its definitions over a list of bytes stand here by themselves, each with a 0
 -- to its name, and the window's are equal to them for every slice that can be lent. Assumes nothing.
 use Prim.{tt}
-use Rattle.std.proofs.Common.{◌≡◌, ℕ, ◌+◌, ◌-◌, ◌*◌, ◌%◌, ◌^◌, ◌<◌, ◌≤◌, Bool, true, false, cond, not, ◌&&◌, eqb, ltb, leb, List, [], ◌∷◌, ◌++◌, length, sym, refl, ap, ◌∙◌, ap₂, arith}
+use Rattle.std.proofs.Common.{◌≡◌, ℕ, ◌+◌, ◌-◌, ◌*◌, ◌%◌, ◌^◌, ◌<◌, Bool, true, cond, not, ◌&&◌, eqb, ltb, leb, List, [], ◌∷◌, ◌++◌, length, refl, ap, ◌∙◌, ap₂, arith}
 use mathlib.Core.Bool.{beq}
 use Rattle.guest.specs.Judge.{Tests, judge}
-use Rattle.guest.specs.Memory.{Memory, window, inside, trb_at, write}
-use Rattle.guest.proofs.Judge.{Passes, Alike, judge_alike, judge_map}
+use Rattle.guest.specs.Memory.{window, inside, trb_at, write}
+use Rattle.guest.proofs.Judge.{Alike, judge_alike}
 use Rattle.guest.proofs.Memory.{inside_within}
 use Rattle.guest.proofs.FromZero.{inside₀, le₀, part₀, write₀, inside_zero, le_zero, part_zero, write_zero}
 use Rattle.trb.specs.Trb.{cycle_of}
 use Rattle.trb.specs.Events.{event_tests, event_bytes}
 use Rattle.trb.specs.declared.event.EventTrb.{EventTrb}
-use Rattle.event_ring.specs.Ring.{entry_at, good_entry, count_ok, ok_state, last, next_index, next_entry, entered, along, next_state, entry_tests, next_tests, refused_at, moved_to, configure_tests, started, configured, full, step_tests, add_tests, added, added_memory, reader_at, of_reader, reader_configured, fresh_of, take_tests, take_refused, nothing_at, taken_at, take}
+use Rattle.event_ring.specs.Ring.{entry_at, good_entry, count_ok, ok_state, last, next_index, entered, next_state, next_tests, refused_at, moved_to, configured, add_tests, added, added_memory, of_reader, reader_configured, fresh_of, take_tests, take_refused, nothing_at, taken_at, take}
 use Rattle.event_ring.specs.Consumer.{Consumer, onward, Consumed, event, none, consume}
 use Rattle.event_ring.specs.declared.Entry.{Entry}
 use Rattle.event_ring.specs.declared.EventRing.{EventRing}

@@ -1,7 +1,7 @@
 -- In a window d further up, d a multiple of 64, configure, add and take answer the same, d further up; add and take, which step to the next
 -- slot, where the place after the window's last is below 2 ^ 64 too. Assumes nothing.
 use Prim.{tt}
-use Rattle.std.proofs.Common.{◌≡◌, ℕ, ◌+◌, ◌-◌, ◌*◌, ◌%◌, ◌^◌, ◌<◌, ◌≤◌, Bool, true, false, cond, not, ◌&&◌, eqb, leb, List, [], ◌∷◌, ◌++◌, length, replicate, sym, refl, ap, ◌∙◌, ap₂, append-nil, arith, eq-eqb, ne_eqb}
+use Rattle.std.proofs.Common.{◌≡◌, ℕ, ◌+◌, ◌-◌, ◌*◌, ◌%◌, ◌^◌, ◌<◌, Bool, true, false, cond, not, eqb, List, [], ◌∷◌, ◌++◌, replicate, sym, refl, ap, ◌∙◌, append-nil, arith, eq-eqb, ne_eqb}
 use mathlib.Core.Bool.{beq}
 use native.Mathlib.Decide.{ℕ_discrete}
 use Rattle.guest.specs.Judge.{Tests, judge}
@@ -9,18 +9,16 @@ use Rattle.guest.specs.Bytes.{le, part}
 use Rattle.guest.specs.Memory.{Memory, window, inside, trb_at, write}
 use Rattle.guest.specs.Further.{Further}
 use Rattle.guest.proofs.Judge.{Passes, Alike, judge_alike}
-use Rattle.guest.proofs.Memory.{inside_within, inside_less}
+use Rattle.guest.proofs.Memory.{inside_less}
 use Rattle.guest.proofs.Further.{inside_further}
 use Rattle.trb.specs.Trb.{cycle_of}
-use Rattle.trb.specs.Events.{valid, event_bytes}
+use Rattle.trb.specs.Events.{event_bytes}
 use Rattle.trb.specs.declared.event.EventTrb.{EventTrb}
-use Rattle.event_ring.specs.Ring.{entry_at, good_entry, count_ok, ok_state, last, next_index, next_entry, entered, along, next_state, entry_tests, next_tests, refused_at, moved_to, configure_tests, started, configured, full, step_tests, add_tests, added, added_memory, reader_at, fresh_of, take_tests, take_refused, nothing_at, taken_at, take}
+use Rattle.event_ring.specs.Ring.{entry_at, good_entry, count_ok, ok_state, last, next_index, next_entry, entered, along, next_state, entry_tests, next_tests, refused_at, moved_to, configure_tests, started, configured, full, add_tests, added, added_memory, fresh_of, take_tests, take_refused, nothing_at, taken_at, take}
 use Rattle.event_ring.specs.Further.{ring_up, answer_up, reader_up, taken_up, EntryUp, SlotUp}
 use Rattle.event_ring.specs.declared.Entry.{Entry}
 use Rattle.event_ring.specs.declared.EventRing.{EventRing}
 use Rattle.event_ring.specs.declared.EventReader.{EventReader}
-use Rattle.event_ring.specs.declared.Moved.{Moved}
-use Rattle.event_ring.specs.declared.Taken.{Taken}
 use Rattle.event_ring.proofs.Laws.{counted}
 
 -- a test of a number and of one that is d more

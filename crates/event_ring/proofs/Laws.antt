@@ -1,6 +1,6 @@
 -- What the ring's limits and answers say, as the proofs of the functions use it. Assumes nothing.
 use Prim.{tt}
-use Rattle.std.proofs.Common.{◌≡◌, ℕ, ◌+◌, ◌-◌, ◌*◌, ◌%◌, ◌^◌, ◌<◌, ◌≤◌, Bool, true, false, cond, not, ◌&&◌, eqb, ltb, leb, List, [], ◌∷◌, ◌++◌, length, sym, refl, ap, ◌∙◌, ap₂, add-zero, arith, lit<, ltb-true, eqb-true, leb-true}
+use Rattle.std.proofs.Common.{◌≡◌, ℕ, ◌+◌, ◌-◌, ◌*◌, ◌%◌, ◌^◌, ◌<◌, ◌≤◌, Bool, true, false, cond, not, ◌&&◌, eqb, ltb, leb, List, [], ◌∷◌, ◌++◌, sym, refl, ap, ◌∙◌, ap₂, add-zero, arith, lit<, ltb-true, eqb-true, leb-true}
 use mathlib.Core.Bool.{beq}
 use Rattle.guest.specs.Judge.{Tests, judge}
 use Rattle.guest.specs.Bytes as bytes

@@ -1,6 +1,6 @@
 -- The port's reader, where it stands as a consumer does, follows the standard's consumer (xHCI 4.9.4) wherever it refuses nothing.
 use Prim.{tt}
-use Rattle.std.proofs.Common.{◌≡◌, ℕ, ◌+◌, ◌*◌, ◌%◌, ◌^◌, ◌<◌, ◌≤◌, Bool, true, false, cond, not, ◌&&◌, eqb, ltb, leb, List, [], ◌∷◌, replicate, sym, refl, ap, ◌∙◌, ap₂, arith, lit<, le-ltb, lt-ltb, eq-eqb, ne_eqb}
+use Rattle.std.proofs.Common.{◌≡◌, ℕ, ◌+◌, ◌*◌, ◌%◌, ◌^◌, ◌<◌, ◌≤◌, Bool, true, false, cond, not, ◌&&◌, eqb, leb, List, [], ◌∷◌, replicate, sym, refl, ap, ◌∙◌, ap₂, arith, lit<, le-ltb, lt-ltb, eq-eqb, ne_eqb}
 use mathlib.Core.Bool.{beq}
 use native.Mathlib.Decide.{dec_le}
 use Rattle.guest.specs.Judge.{judge}

@@ -1,10 +1,10 @@
 -- A refusal changes no byte and no ring, whatever the operation, the memory and the states. Assumes nothing.
 use Prim.{tt}
-use Rattle.std.proofs.Common.{◌≡◌, ℕ, List, [], sym, refl, ap, ◌∙◌, ap₂, lit<}
-use Rattle.guest.specs.Judge.{Tests, judge, refusal_of}
+use Rattle.std.proofs.Common.{◌≡◌, ℕ, refl, ap, lit<}
+use Rattle.guest.specs.Judge.{judge}
 use Rattle.guest.specs.Memory.{Memory, write}
 use Rattle.guest.proofs.Judge.{Numbered, answer_stops}
-use Rattle.trb.specs.Events.{event_tests, event_bytes}
+use Rattle.trb.specs.Events.{event_bytes}
 use Rattle.trb.specs.declared.event.EventTrb.{EventTrb}
 use Rattle.event_ring.specs.Ring.{empty, configure_tests, started, configured, add_tests, next_state, refused_at, moved_to, added, added_memory, reader_at, reader_configured, take, take_tests, take_refused, fresh_of, number_of}
 use Rattle.event_ring.specs.declared.EventRing.{EventRing}

@@ -1,7 +1,7 @@
 -- Document 01's refusals of configure, add and take a second time: as facts on the inputs, in its own numbers, order and words. Nothing of
 -- Ring.antt is cited here, so that a slip there is a slip on one side only; proofs/Faults.antt shows that both say the same for every input.
 use Rattle.std.specs.Prelude.{◌≡◌, ℕ, ◌+◌, ◌*◌, ◌%◌, ◌^◌, ◌<◌, ◌≤◌, true, cond, ◌⊎◌, List, [], ◌∷◌, length, nat_lt}
-use Rattle.guest.specs.Faults.{Not, Faults, FirstOf, Inside}
+use Rattle.guest.specs.Faults.{Not, Faults, Inside}
 use Rattle.guest.specs.Memory.{Memory, byte, le, trb_at}
 use Rattle.trb.specs.Trb.{cycle_of}
 use Rattle.trb.specs.declared.event.EventTrb.{EventTrb}

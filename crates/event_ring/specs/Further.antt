@@ -2,7 +2,6 @@
 use Rattle.std.specs.Prelude.{◌≡◌, ℕ, ◌+◌, true}
 use Rattle.guest.specs.Memory.{Memory, inside, trb_at}
 use Rattle.event_ring.specs.Ring.{entry_at, reader_at}
-use Rattle.event_ring.specs.declared.Entry.{Entry}
 use Rattle.event_ring.specs.declared.EventRing.{EventRing}
 use Rattle.event_ring.specs.declared.Moved.{Moved}
 use Rattle.event_ring.specs.declared.EventReader.{EventReader}
