@@ -1,11 +1,10 @@
 -- A number that stands for a refusal is told from an event's high half; and what an event's two numbers are the bytes of. Assumes nothing.
-use mathlib.Core.Path.{◌≡◌, refl, sym, ap, ◌∙◌}
+use mathlib.Core.Path.{◌≡◌, refl}
 use mathlib.Core.Bool.{Bool, true, false, cond}
 use mathlib.Core.List.{List, [], ◌∷◌, ◌++◌}
-use Prim.Native.Nat.{ℕ, zero, suc, ◌+◌, ◌*◌, ◌/◌, ◌%◌, ◌^◌, ◌≤◌, ◌<◌}
+use Prim.Native.Nat.{ℕ, zero, suc, ◌/◌, ◌^◌, ◌≤◌}
 use native.Mathlib.Omega.{arith}
 use lib.Dec.{eqb}
-use lib.ListN.{get_or}
 use Rattle.guest.specs.Judge.{judge}
 use Rattle.guest.specs.Fields.{bytes_of, bytes_of_dwords, low_of, high_of, whole_of}
 use Rattle.guest.specs.declared.Dwords.{Dwords}
@@ -19,7 +18,6 @@ use Rattle.trb.specs.declared.event.EventTrb.{EventTrb}
 use Rattle.trb.specs.declared.event.EventVariant.{EventVariant}
 use Rattle.trb.proofs.OneEncoding.{bytes_length}
 use Rattle.words.specs.Events.{field_of, refused_with, coded, code_in, transfer_in, command_completion_in, port_status_change_in, event_in, bytes_from, written}
-use Rattle.words.specs.declared.event.CTrb.{CTrb}
 use Rattle.words.proofs.Written.{written_yes}
 
 -- ---- an event that is written has a type, which stands above bit 42 of its high half

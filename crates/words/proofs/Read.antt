@@ -1,5 +1,5 @@
 -- What the decoder says of the bytes of two numbers, in the terms of the code: its refusals, and the words of the event. Assumes nothing.
-use mathlib.Core.Path.{◌≡◌, refl, sym, ap, ◌∙◌}
+use mathlib.Core.Path.{◌≡◌, refl, ap}
 use mathlib.Core.Bool.{Bool, true, false, ◌&&◌, and-true, and_assoc}
 use mathlib.Core.List.{List}
 use Prim.Native.Nat.{ℕ, ◌+◌, ◌*◌, ◌/◌, ◌%◌, ◌^◌, ◌<◌}
@@ -10,10 +10,9 @@ use Rattle.guest.specs.Judge.{judge}
 use Rattle.guest.specs.Fields.{dword, whole_of}
 use Rattle.guest.specs.declared.Dwords.{Dwords}
 use Rattle.guest.proofs.Fields.{whole_dwords}
-use Rattle.codes.specs.Codes.{number_of, code_of}
+use Rattle.codes.specs.Codes.{code_of}
 use Rattle.trb.specs.Trb.{type_of, pointer_of}
 use Rattle.trb.specs.Events.{is_listed, transfer_as, command_completion_as, port_status_change_as}
-use Rattle.trb.specs.declared.event.EventVariant.{EventVariant}
 use Rattle.trb.proofs.Raw.{flag_is}
 use Rattle.words.specs.Lent.{one, three}
 use Rattle.words.specs.Events.{refused_with, put_variant, refusal_shown}

@@ -1,7 +1,6 @@
 -- The two numbers of an event's TRB, from its dwords; then for each event as the words give it. Assumes nothing.
-use Prim.{tt}
 use mathlib.Core.Path.{◌≡◌, refl, sym, ap, ap₂, ◌∙◌}
-use mathlib.Core.Bool.{Bool, true, false, cond}
+use mathlib.Core.Bool.{Bool, true, false}
 use mathlib.Core.List.{List, [], ◌∷◌}
 use Prim.Native.Nat.{ℕ, ◌+◌, ◌*◌, ◌/◌, ◌%◌, ◌^◌, ◌<◌, ◌≤◌}
 use native.Mathlib.Nat.{div-one}
@@ -12,11 +11,10 @@ use lib.ListN.{get_or}
 use Rattle.guest.specs.Judge.{judge}
 use Rattle.guest.specs.Fields.{bits, bytes_of_dwords}
 use Rattle.guest.specs.declared.Dwords.{Dwords}
-use Rattle.guest.proofs.Fields.{Sized, split_join, halves}
+use Rattle.guest.proofs.Fields.{split_join, halves}
 use Rattle.codes.specs.Codes.{number_of}
 use Rattle.codes.specs.declared.CompletionCode.{CompletionCode}
 use Rattle.codes.specs.declared.Coded.{Coded}
-use Rattle.trb.specs.Trb.{bit}
 use Rattle.trb.specs.Events.{Typed, valid, pack, in_code, in_transfer, in_command_completion, in_port_status_change, event_dwords, bytes_answered}
 use Rattle.trb.specs.declared.event.EventTrb.{EventTrb}
 use Rattle.trb.specs.declared.event.EventVariant.{EventVariant}

@@ -1,0 +1,30 @@
+-- By the type.
+use Rattle.std.proofs.Common.{◌≡◌, ℕ, ◌/◌, ◌%◌, ◌^◌, ◌⊎◌, inl, inr, refl, arith, ne_eqb}
+use Rattle.trb.specs.Events.{event_of}
+use Rattle.words.proofs.Read.{type_is}
+use Rattle.words.proofs.event.parse.Goals as goal
+
+pub returns-in-32 : goal.returns-in-32
+unfolding event_of
+returns-in-32 c = rw (type_is c.args.low c.args.high, c.in-32.is) c.transfer_read.ensures
+
+pub returns-in-33 : goal.returns-in-33
+unfolding event_of
+returns-in-33 c = rw (type_is c.args.low c.args.high, c.in-33.is) c.command_completion_read.ensures
+
+pub returns-in-34 : goal.returns-in-34
+unfolding event_of
+returns-in-34 c = rw (type_is c.args.low c.args.high, c.in-34.is) c.port_status_change_read.ensures
+
+pub returns-in_default : goal.returns-in_default
+unfolding event_of
+returns-in_default c =
+    let t : ℕ = c.args.high / 2 ^ 32 % 2 ^ 32 / 2 ^ 10 % 2 ^ 6 in
+    let other : (n : ℕ) → (n ≡ 32) ⊎ ((n ≡ 33) ⊎ (n ≡ 34)) → t ≡ n → ⊥ = λ (n : ℕ) (h : (n ≡ 32) ⊎ ((n ≡ 33) ⊎ (n ≡ 34))) (e : t ≡ n). omega arith in
+    rw (
+      type_is c.args.low c.args.high,
+      ne_eqb t 32 (other 32 (inl refl)),
+      ne_eqb t 33 (other 33 (inr (inl refl))),
+      ne_eqb t 34 (other 34 (inr (inr refl))),
+    )
+    (refl, refl)
