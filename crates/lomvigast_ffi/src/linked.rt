@@ -121,8 +121,7 @@ fn nothing_new(ring: &mut CLinkedRing, place: u64, cycle: u64, links: u64) -> CC
 
 // Links that leave nothing to note are followed here; where anything else is met, the whole rule begins anew. The next place is a Link's
 // pointer as it was read and not what is left of it after a mask, so that the next TRB can be read a step earlier.
-#[unsafe(no_mangle)]
-pub extern "C" fn lomvigast_next_trb(start: u64, mem: &[u8], ring: &mut CLinkedRing) -> CChase
+pub fn lomvigast_next_trb(start: u64, mem: &[u8], ring: &mut CLinkedRing) -> CChase
     ensures { (result ≡ flat_chase (chase (window start mem.now) (ring_of ring.old)))
         × (ring.new ≡ ring_after (chase (window start mem.now) (ring_of ring.old)) ring.old) }
 {
@@ -151,15 +150,13 @@ pub extern "C" fn lomvigast_next_trb(start: u64, mem: &[u8], ring: &mut CLinkedR
 }
 
 // One TRB further, modulo 2^64.
-#[unsafe(no_mangle)]
-pub extern "C" fn lomvigast_advance(ring: &mut CLinkedRing)
+pub fn lomvigast_advance(ring: &mut CLinkedRing)
     ensures { ring.new ≡ slice_set ring.old 0 (advanced (ring_of ring.old)).place }
 {
     ring[0] = ring[0].wrapping_add(LinkedRing::TRB_SIZE);
 }
 
-#[unsafe(no_mangle)]
-pub extern "C" fn lomvigast_set_place(ring: &mut CLinkedRing, place: u64, cycle: bool)
+pub fn lomvigast_set_place(ring: &mut CLinkedRing, place: u64, cycle: bool)
     ensures { ring.new ≡ ring_words (ring_at place cycle) }
 {
     put(ring, place, words::bit(cycle))

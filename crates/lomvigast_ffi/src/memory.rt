@@ -42,36 +42,31 @@ fn flat_number(number: Number) -> CNumber
     }
 }
 
-#[unsafe(no_mangle)]
-pub extern "C" fn lomvigast_inside(start: u64, mem: &[u8], address: u64, length: u64) -> bool
+pub fn lomvigast_inside(start: u64, mem: &[u8], address: u64, length: u64) -> bool
     ensures { result ≡ inside (window start mem.now) address length }
 {
     guest::inside(start, mem, address, length)
 }
 
-#[unsafe(no_mangle)]
-pub extern "C" fn lomvigast_read2(start: u64, mem: &[u8], address: u64) -> CNumber
+pub fn lomvigast_read2(start: u64, mem: &[u8], address: u64) -> CNumber
     ensures { result ≡ flat_number (number_at (window start mem.now) address 2) }
 {
     flat_number(guest::read2(start, mem, address))
 }
 
-#[unsafe(no_mangle)]
-pub extern "C" fn lomvigast_read4(start: u64, mem: &[u8], address: u64) -> CNumber
+pub fn lomvigast_read4(start: u64, mem: &[u8], address: u64) -> CNumber
     ensures { result ≡ flat_number (number_at (window start mem.now) address 4) }
 {
     flat_number(guest::read4(start, mem, address))
 }
 
-#[unsafe(no_mangle)]
-pub extern "C" fn lomvigast_read8(start: u64, mem: &[u8], address: u64) -> CNumber
+pub fn lomvigast_read8(start: u64, mem: &[u8], address: u64) -> CNumber
     ensures { result ≡ flat_number (number_at (window start mem.now) address 8) }
 {
     flat_number(guest::read8(start, mem, address))
 }
 
-#[unsafe(no_mangle)]
-pub extern "C" fn lomvigast_read_trb(start: u64, mem: &[u8], address: u64, out: &mut [u64; 2]) -> u8
+pub fn lomvigast_read_trb(start: u64, mem: &[u8], address: u64, out: &mut [u64; 2]) -> u8
     ensures { (result ≡ (trb_read (window start mem.now) address).refusal) × (out.new ≡ put_trb (trb_read (window start mem.now) address) out.old) }
 {
     let read = guest::read_trb(start, mem, address);
@@ -83,8 +78,7 @@ pub extern "C" fn lomvigast_read_trb(start: u64, mem: &[u8], address: u64, out: 
     0
 }
 
-#[unsafe(no_mangle)]
-pub extern "C" fn lomvigast_write_trb(
+pub fn lomvigast_write_trb(
     start: u64,
     mem: &mut [u8],
     address: u64,

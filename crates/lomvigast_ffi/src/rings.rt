@@ -105,15 +105,13 @@ fn step(ring: &mut CEventRing, place: u64, remaining: u64)
     ];
 }
 
-#[unsafe(no_mangle)]
-pub extern "C" fn lomvigast_reset(ring: &mut CEventRing)
+pub fn lomvigast_reset(ring: &mut CEventRing)
     ensures { ring.new ≡ words_of empty }
 {
     put(ring, EventRing::new())
 }
 
-#[unsafe(no_mangle)]
-pub extern "C" fn lomvigast_configure(
+pub fn lomvigast_configure(
     start: u64,
     mem: &[u8],
     ring: &mut CEventRing,
@@ -131,8 +129,7 @@ pub extern "C" fn lomvigast_configure(
     0
 }
 
-#[unsafe(no_mangle)]
-pub extern "C" fn lomvigast_configure_reader(
+pub fn lomvigast_configure_reader(
     start: u64,
     mem: &[u8],
     reader: &mut CEventRing,
@@ -170,8 +167,7 @@ fn add(start: u64, mem: &mut [u8], ring: &mut CEventRing, event: &[u64; 3], repo
 
 // Adds an event, given the place up to which the reader has reported that it took events. The usual case, in which the ring goes on in
 // its segment, is done here; all else by `add`.
-#[unsafe(no_mangle)]
-pub extern "C" fn lomvigast_add(
+pub fn lomvigast_add(
     start: u64,
     mem: &mut [u8],
     ring: &mut CEventRing,
@@ -223,8 +219,7 @@ fn take(start: u64, mem: &[u8], reader: &mut CEventRing, out: &mut [u64; 2]) -> 
 
 // Takes the event that stands in the reader's slot, if the slot is fresh: 0, with the event's halves in `out`; 255 where it is not. The
 // usual case, in which the reader goes on in its segment, is done here; all else by `take`.
-#[unsafe(no_mangle)]
-pub extern "C" fn lomvigast_take(
+pub fn lomvigast_take(
     start: u64,
     mem: &[u8],
     reader: &mut CEventRing,

@@ -102,8 +102,7 @@ fn put(out: &mut [u64; 3], variant: CommandTrbVariant, low: u64, high: u64)
     }
 }
 
-#[unsafe(no_mangle)]
-pub extern "C" fn lomvigast_parse_command(out: &mut [u64; 3], low: u64, high: u64)
+pub fn lomvigast_parse_command(out: &mut [u64; 3], low: u64, high: u64)
     ensures { out.new ≡ put (command_of (whole_of low high)).variant low high out.old }
 {
     let parsed = CommandTrbVariant::parse(guest::whole(low, high));

@@ -7,15 +7,13 @@ ghost use Rattle.words.specs.Events.{event_in, bytes_from, written, put_variant,
 use words::event::CTrb;
 
 // With the cycle bit that `cycle` has in bit 0.
-#[unsafe(no_mangle)]
-pub extern "C" fn lomvigast_event_bytes(event: &[u64; 3], cycle: u64) -> CTrb
+pub fn lomvigast_event_bytes(event: &[u64; 3], cycle: u64) -> CTrb
     ensures { result ≡ written (bytes_from (event_in event.now) (eqb (cycle % 2) 1)) }
 {
     words::event::bytes(event, cycle)
 }
 
-#[unsafe(no_mangle)]
-pub extern "C" fn lomvigast_parse_event(out: &mut [u64; 3], low: u64, high: u64) -> u16
+pub fn lomvigast_parse_event(out: &mut [u64; 3], low: u64, high: u64) -> u16
     ensures { (result ≡ refusal_shown (event_of (whole_of low high)).variant) × (out.new ≡ put_variant (event_of (whole_of low high)).variant out.old) }
 {
     words::event::parse(out, low, high)

@@ -44,8 +44,7 @@ fn class(class: Class) -> u8
 }
 
 // The code that a byte stands for, by its number, or refusal 12.
-#[unsafe(no_mangle)]
-pub extern "C" fn lomvigast_code_of(byte: u8) -> CCoded
+pub fn lomvigast_code_of(byte: u8) -> CCoded
     ensures { result ≡ flat_coded (code_of byte) }
 {
     let coded = codes::code_of(byte);
@@ -56,8 +55,7 @@ pub extern "C" fn lomvigast_code_of(byte: u8) -> CCoded
 }
 
 // 0 for listed, 1 for reserved, 2 for a vendor error, 3 for vendor information.
-#[unsafe(no_mangle)]
-pub extern "C" fn lomvigast_class_of(byte: u8) -> u8
+pub fn lomvigast_class_of(byte: u8) -> u8
     ensures { result ≡ number_of_class (class_of byte) }
 {
     class(codes::class_of(byte))

@@ -51,29 +51,25 @@ fn flat_link(answer: LinkOrOther) -> CLink
     }
 }
 
-#[unsafe(no_mangle)]
-pub extern "C" fn lomvigast_trb_type(low: u64, high: u64) -> u8
+pub fn lomvigast_trb_type(low: u64, high: u64) -> u8
     ensures { result ≡ type_of (whole_of low high) }
 {
     trb::trb_type(guest::whole(low, high))
 }
 
-#[unsafe(no_mangle)]
-pub extern "C" fn lomvigast_cycle_bit(low: u64, high: u64) -> bool
+pub fn lomvigast_cycle_bit(low: u64, high: u64) -> bool
     ensures { result ≡ cycle_of (whole_of low high) }
 {
     trb::cycle_bit(guest::whole(low, high))
 }
 
-#[unsafe(no_mangle)]
-pub extern "C" fn lomvigast_parse_link(low: u64, high: u64) -> CLink
+pub fn lomvigast_parse_link(low: u64, high: u64) -> CLink
     ensures { result ≡ flat_link (link_of (whole_of low high)) }
 {
     flat_link(LinkTrb::parse(guest::whole(low, high)))
 }
 
-#[unsafe(no_mangle)]
-pub extern "C" fn lomvigast_data_refusal(
+pub fn lomvigast_data_refusal(
     start: u64,
     mem: &[u8],
     pointer: u64,
@@ -91,8 +87,7 @@ pub extern "C" fn lomvigast_data_refusal(
 }
 
 // The place of the part, since a reference cannot be answered over C.
-#[unsafe(no_mangle)]
-pub extern "C" fn lomvigast_data(
+pub fn lomvigast_data(
     start: u64,
     mem: &[u8],
     pointer: u64,

@@ -157,8 +157,7 @@ fn put(out: &mut [u64; 4], variant: TransferTrbVariant, low: u64, high: u64)
     }
 }
 
-#[unsafe(no_mangle)]
-pub extern "C" fn lomvigast_parse_transfer(out: &mut [u64; 4], low: u64, high: u64)
+pub fn lomvigast_parse_transfer(out: &mut [u64; 4], low: u64, high: u64)
     ensures { out.new ≡ put (transfer_of (whole_of low high)).variant low high out.old }
 {
     let parsed = TransferTrbVariant::parse(guest::whole(low, high));

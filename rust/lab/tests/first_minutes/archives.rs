@@ -50,76 +50,70 @@ fn taken(folder: &Path) -> super::Said {
 pub const NO_RT: &str = "rt, the command of the Rattle kit, is missing: install the kit, or set LOMVIGAST_ARCHIVE to a folder that `./lomvigast pack` made of these sources";
 
 const PROGRESS: &str = "\
-lomvigast: proving the core, which is done once and takes about two minutes
-lomvigast: proving guest (1 of 8)
-lomvigast: proving codes (2 of 8)
-lomvigast: proving trb (3 of 8)
-lomvigast: proving words (4 of 8)
-lomvigast: proving linked_ring (5 of 8)
-lomvigast: proving event_ring (6 of 8)
-lomvigast: proving trb_ffi (7 of 8)
-lomvigast: proving lomvigast_ffi (8 of 8)
+lomvigast: proving the core, which is done once and takes some minutes
+lomvigast: proving guest (1 of 10)
+lomvigast: proving codes (2 of 10)
+lomvigast: proving trb (3 of 10)
+lomvigast: proving words (4 of 10)
+lomvigast: proving linked_ring (5 of 10)
+lomvigast: proving event_ring (6 of 10)
+lomvigast: proving trb_ffi (7 of 10)
+lomvigast: proving lomvigast_ffi (8 of 10)
+lomvigast: proving trb_ffi_c (9 of 10)
+lomvigast: proving lomvigast_ffi_c (10 of 10)
 ";
 
 #[test]
 fn the_core_is_proved_crate_by_crate_and_once() {
-    for jobs in ["1", "2"] {
-        let target = empty(&format!("proved by {jobs}"));
-        let (notes, work) = (target.join("notes"), target.join("work"));
-        fs::create_dir(&work).expect("a folder for the test");
-        let mut first = archives(&target);
-        first.env("RT_JOBS", jobs);
-        first.env("NOTES", &notes).env("TMPDIR", &work);
-        let (status, folder, progress) = said(&mut first);
-        assert_eq!((status, progress.as_str()), (Some(0), PROGRESS));
-        let folder = Path::new(folder.trim_end());
-        let name = folder.file_name().and_then(|name| name.to_str());
-        let name = name.expect("text").replace('-', " ");
-        let version = fs::read_to_string(folder.join("VERSION")).expect("the version");
-        let line = format!("lomvigast {name}\nproved with a stand-in\n");
-        assert_eq!(version, line);
-        sums_hold(folder, 3);
+    let target = empty("proved");
+    let (notes, work) = (target.join("notes"), target.join("work"));
+    fs::create_dir(&work).expect("a folder for the test");
+    let mut first = archives(&target);
+    first.env("NOTES", &notes).env("TMPDIR", &work);
+    let (status, folder, progress) = said(&mut first);
+    assert_eq!((status, progress.as_str()), (Some(0), PROGRESS));
+    let folder = Path::new(folder.trim_end());
+    let name = folder.file_name().and_then(|name| name.to_str());
+    let name = name.expect("text").replace('-', " ");
+    let version = fs::read_to_string(folder.join("VERSION")).expect("the version");
+    let line = format!("lomvigast {name}\nproved with a stand-in\n");
+    assert_eq!(version, line);
+    sums_hold(folder, 3);
 
-        let mut second = archives(&target);
-        second.env("PATH", path_without(&["rt"]));
-        assert_eq!(said(&mut second), taken(folder));
+    // What the compiler read of each crate is beside the archives.
+    let heads = fs::read_to_string(folder.join("HEADS")).expect("the heads");
+    assert!(heads.starts_with("== crates/guest/src/lib.rt\npub fn f ( ) ;\n== crates/codes/"));
+    assert!(heads.ends_with("== crates/lomvigast_ffi_c\nfn lomvigast_ffi_c::f\n"));
+    assert_eq!(heads.lines().count(), 10 * 2);
 
-        // `rt` writes nothing to the checkout: it works in a temporary folder, and that is gone.
-        let notes = fs::read_to_string(notes).expect("the stand-in's notes");
-        assert_eq!(notes.lines().count(), 8 * 4);
-        for place in notes.lines() {
-            assert!(Path::new(place).starts_with(&work), "{place}");
-        }
-        assert_eq!(fs::read_dir(work).expect("the folder").count(), 0);
+    let mut second = archives(&target);
+    second.env("PATH", path_without(&["rt"]));
+    assert_eq!(said(&mut second), taken(folder));
+
+    // `rt` writes nothing to the checkout: it works in a temporary folder, and that is gone.
+    let notes = fs::read_to_string(notes).expect("the stand-in's notes");
+    assert_eq!(notes.lines().count(), 10 * 2);
+    for place in notes.lines() {
+        assert!(Path::new(place).starts_with(&work), "{place}");
     }
+    assert_eq!(fs::read_dir(work).expect("the folder").count(), 0);
 }
 
 #[test]
 fn a_crate_that_is_not_proved_is_told_and_no_archive_is_left_to_take() {
-    for (jobs, name) in [
-        ("1", "guest"),
-        ("2", "guest"),
-        ("2", "codes"),
-        ("2", "trb_ffi"),
-    ] {
+    for name in ["guest", "codes", "trb_ffi", "lomvigast_ffi_c"] {
         let target = empty("refused");
-        let mut refused = archives(&target);
-        refused.env("REFUSES", name).env("RT_JOBS", jobs);
-        let (status, out, fault) = said(&mut refused);
-        assert_eq!((status, out.as_str()), (Some(1), ""), "{fault}");
-        let lines = [
-            format!("the stand-in's words on {name}"),
-            format!("lomvigast: {name} is not proved"),
-        ];
-        for line in lines {
-            assert!(fault.lines().any(|said| said == line), "{fault}");
-        }
-        // What stands on it is not begun.
-        assert_eq!(
-            fault.contains("proving trb ("),
-            name == "trb_ffi",
-            "{fault}"
+        let (status, out, fault) = said(archives(&target).env("REFUSES", name));
+        // What stands after it is not begun.
+        let begun = PROGRESS
+            .find(&format!("proving {name} ("))
+            .expect("its line");
+        let begun = begun + PROGRESS[begun..].find('\n').expect("its end");
+        let progress = &PROGRESS[..begun];
+        let told = format!(
+            "{progress}\nthe stand-in's words on {name}\nlomvigast: {name} is not proved\n"
         );
+        assert_eq!((status, out, fault), (Some(1), String::new(), told));
         let mut again = archives(&target);
         stops(again.env("PATH", path_without(&["rt"])), NO_RT);
     }
@@ -135,11 +129,10 @@ fn what_was_proved_is_kept() {
     assert_eq!(said(second.env("NOTES", &notes)).0, Some(0));
     let notes = fs::read_to_string(notes).expect("the stand-in's notes");
     let again = notes.lines().filter(|line| line.ends_with(" once more"));
-    let mut again: Vec<_> = again.collect();
-    again.sort_unstable();
+    let again: Vec<_> = again.collect();
     let proved = [
-        "codes once more",
         "guest once more",
+        "codes once more",
         "trb once more",
         "words once more",
     ];
@@ -207,8 +200,20 @@ impl Clone {
         let unique = format!("lomvigast-{name}-{}", std::process::id());
         let clone = Clone(env::temp_dir().join(unique));
         fs::create_dir_all(clone.0.join("rust/lomvigast")).expect("a folder for the test");
-        for part in ["crates", "crates.txt", SCRIPT, "rust/lomvigast/Cargo.toml"] {
+        for part in ["crates.txt", SCRIPT, "rust/lomvigast/Cargo.toml"] {
             copy(&repository().join(part), &clone.0.join(part));
+        }
+        // Without out/, in which `rt` keeps much.
+        let crates = fs::read_dir(repository().join("crates")).expect("the crates");
+        for folder in crates.map(|folder| folder.expect("a crate").path()) {
+            let name = folder.file_name().expect("a name");
+            let to = clone.0.join("crates").join(name);
+            fs::create_dir_all(&to).expect("a folder for the test");
+            for part in ["src", "specs", "proofs", "must-fail"] {
+                if folder.join(part).exists() {
+                    copy(&folder.join(part), &to);
+                }
+            }
         }
         clone
     }
@@ -240,6 +245,8 @@ fn archives_belong_to_the_content_of_the_sources() {
     append(clone.0.join("crates/delivery/src/lib.rt"), "// more\n");
     append(clone.0.join("crates.txt"), "more: guest\n");
     fs::write(clone.0.join("crates/guest/must-fail/more.edit"), "").expect("an edit");
+    fs::create_dir(clone.0.join("crates/guest/out")).expect("what a check leaves");
+    fs::write(clone.0.join("crates/guest/out/lib.rt"), "// more\n").expect("a print");
     assert_eq!(said(&mut run()), taken(&folder));
 
     let source = clone.0.join("crates/guest/src/lib.rt");
@@ -264,14 +271,13 @@ fn sources_that_change_meanwhile_are_not_taken_as_proved() {
     assert_eq!((status, out.as_str()), (Some(1), ""));
     let end = "lomvigast: the sources were changed while they were proved: begin again\n";
     assert!(fault.ends_with(end), "{fault}");
-    // Neither for what they were, nor crate by crate.
+    // Nor for what they were: there are no archives. Crate by crate it was a copy that was proved, and what is kept of it is that
+    // copy's: `rt` takes it for the same text alone.
     fs::write(source, text).expect("a source");
     let mut again = clone.script(&target);
-    let notes = target.join("notes");
-    let (status, _, fault) = said(again.env("NOTES", &notes));
+    stops(again.env("PATH", path_without(&["rt"])), NO_RT);
+    let (status, _, fault) = said(&mut clone.script(&target));
     assert_eq!((status, fault.as_str()), (Some(0), PROGRESS));
-    let notes = fs::read_to_string(notes).expect("the stand-in's notes");
-    assert!(!notes.contains("once more"), "{notes}");
 }
 
 /// What is wrong with a folder, and what is said of it.

@@ -4,8 +4,10 @@ mod archives;
 mod lab;
 mod pack;
 
+use std::ffi::OsString;
+use std::fs::Permissions;
 use std::io::{BufRead, BufReader, Read, Write};
-use std::os::unix::fs::symlink;
+use std::os::unix::fs::PermissionsExt;
 use std::path::{Path, PathBuf};
 use std::process::{Child, Command, Output, Stdio};
 use std::sync::atomic::{AtomicUsize, Ordering};
@@ -48,19 +50,32 @@ fn append(file: PathBuf, text: &str) {
     written.expect("a file of the test");
 }
 
-/// All commands of this machine but these, in a folder that no other test has.
-fn path_without(names: &[&str]) -> PathBuf {
+/// This machine's PATH without these commands: in the place of a folder that has one of them stands one with a script for each of
+/// its other commands. Links would be shorter, but `rt ci` refuses them, wherever below the checkout they are.
+fn path_without(names: &[&str]) -> OsString {
     static NEXT: AtomicUsize = AtomicUsize::new(0);
     let folder = empty(&format!("path_{}", NEXT.fetch_add(1, Ordering::Relaxed)));
     let path = env::var_os("PATH").expect("PATH is set");
-    let folders = env::split_paths(&path).filter_map(|folder| fs::read_dir(folder).ok());
-    for command in folders.flatten().filter_map(Result::ok) {
-        if names.iter().all(|name| command.file_name() != *name) {
-            // Of two with the same name the first counts.
-            let _ = symlink(command.path(), folder.join(command.file_name()));
+    let places = env::split_paths(&path).enumerate().map(|(at, place)| {
+        if names.iter().all(|name| !place.join(name).exists()) {
+            return place;
         }
-    }
-    folder
+        let other = folder.join(at.to_string());
+        fs::create_dir(&other).expect("a folder for the test");
+        let commands = fs::read_dir(&place).expect("it has a command");
+        for command in commands.filter_map(Result::ok) {
+            if names.iter().all(|name| command.file_name() != *name) {
+                let script = other.join(command.file_name());
+                let text = format!("#!/bin/sh\nexec '{}' \"$@\"\n", command.path().display());
+                let written = fs::write(&script, text);
+                let made = written
+                    .and_then(|()| fs::set_permissions(&script, Permissions::from_mode(0o755)));
+                made.expect("a script for the test");
+            }
+        }
+        other
+    });
+    env::join_paths(places).expect("a path")
 }
 
 fn lomvigast(arguments: &[&str], target: &Path) -> Command {

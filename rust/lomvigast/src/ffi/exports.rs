@@ -37,10 +37,17 @@ fn header() -> String {
     plain(&fs::read_to_string(root().join("include/lomvigast.h")).expect("the header"))
 }
 
-/// The texts of the crates that export, and of what crosses.
+/// The texts of the crates that export, of those whose functions they call, and of what crosses.
 fn sources() -> Vec<String> {
     let folder = |name| root().join("crates").join(name).join("src");
-    let entries = ["lomvigast_ffi", "trb_ffi", "words"]
+    let crates = [
+        "lomvigast_ffi_c",
+        "trb_ffi_c",
+        "lomvigast_ffi",
+        "trb_ffi",
+        "words",
+    ];
+    let entries = crates
         .into_iter()
         .flat_map(|name| fs::read_dir(folder(name)).expect("the exports stand beside this crate"));
     let mut files: Vec<_> = entries.map(|entry| entry.expect("a file").path()).collect();
@@ -88,7 +95,9 @@ fn rust_like(text: &str, ends: &[&str]) -> Function {
 fn in_rattle() -> Vec<Function> {
     let mut all = Vec::new();
     for text in sources() {
-        let parts = text.split("#[no_mangle] pub extern \"C\" fn ").skip(1);
+        let parts = text
+            .split("#[unsafe(no_mangle)] pub extern \"C\" fn ")
+            .skip(1);
         all.extend(parts.map(|part| {
             let part = part
                 .replacen("mem: &[u8]", "mem: *const u8, len: usize", 1)
@@ -262,7 +271,11 @@ fn records_in_registers_have_the_same_fields() {
             &format!("#[derive(Debug, Clone, Copy, PartialEq, Eq)] pub struct {short} {{"),
             ',',
         );
-        let proved = fields(&rattle, &format!("#[repr(C)] pub struct {short} {{"), ',');
+        let proved = fields(
+            &rattle,
+            &format!("#[repr(C)] #[derive(Clone, Copy)] pub struct {short} {{"),
+            ',',
+        );
         assert_eq!(as_words(ours, rust_as_c), theirs, "{short}");
         assert_eq!(as_words(theirs, c_as_rattle), proved, "{short}");
     }
