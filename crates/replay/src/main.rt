@@ -10,7 +10,7 @@ mod input;
 mod rings;
 mod trbs;
 
-ghost use Rattle.std.specs.Prelude.{◌≡◌, ◌≤◌, length, IfOk};
+ghost use Rattle.std.specs.Prelude.{◌≡◌, ◌≢◌, ℕ, ◌<◌, ◌≤◌, length, IfOk, slice_index};
 
 use lomvigast_ffi::rings::CEventRing;
 use std::io;
@@ -60,8 +60,10 @@ fn read_full(input: &mut impl Read, room: &mut [u8]) -> io::Result<usize>
 // Where such a byte first is from a place on, or else where the text ends.
 fn find(text: &[u8], from: usize, b: u8) -> usize
     requires { from ≤ length text.now }
-    ensures low { from ≤ result }
-    ensures high { result ≤ length text.now }
+    ensures after { from ≤ result }
+    ensures within { result ≤ length text.now }
+    ensures before { (k : ℕ) → from ≤ k → k < result → slice_index text.now k ≢ b }
+    ensures found { result < length text.now → slice_index text.now result ≡ b }
 {
     for i in from..text.len() {
         if text[i] == b {
