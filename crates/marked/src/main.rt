@@ -4,8 +4,8 @@
 
 use codes::CompletionCode;
 use event_ring::EventRing;
-use libc::STDOUT_FILENO;
 use linked_ring::{Answer, LinkedRing};
+use std::io;
 use trb::command::CommandTrbVariant;
 use trb::event::{
     CommandCompletionEventTrbData, EventTrb, PortStatusChangeEventTrbData, TransferEventTrbData,
@@ -16,69 +16,43 @@ use trb::{RawTrbBuffer, TrbParseError};
 // The cases that have addresses are run twice, the second time with all of them moved up by so much.
 const MOVED: u64 = 0xffff_ffff_ffff_fe00;
 
-fn text(t: &[u8]) {
-    io::write_all(STDOUT_FILENO, t);
-}
-
-fn number(label: &[u8], n: u64) {
-    text(label);
-    io::print_decimal(STDOUT_FILENO, n);
-}
-
-fn hex(label: &[u8], n: u64) {
-    text(label);
-    io::print_hex(STDOUT_FILENO, n, 1);
-}
-
-fn wide(b: u8) -> u64 {
-    b as u64
-}
-
 // An event's bytes, two hexadecimal digits each.
-fn event(name: &[u8], event: EventTrb, cycle_bit: bool) {
+fn event(rt: &impl Print, name: &str, event: EventTrb, cycle_bit: bool) -> io::Result<()> {
     let written = event.to_bytes(cycle_bit);
     let trb = written.trb;
-    text(name);
-    number(b" refusal ", wide(written.refusal));
-    text(b":");
-    for i in 0..16 {
-        text(b" ");
-        io::print_hex(STDOUT_FILENO, wide(trb[i]), 2);
+    print!(rt; "{name} refusal {}:", written.refusal)?;
+    for b in trb {
+        print!(rt; " {b:02x}")?;
     }
-    text(b"\n");
+    println!(rt)
 }
 
-fn refusal(name: &[u8], e: TrbParseError) {
-    text(name);
-    number(b" refusal ", wide(e.number));
-    number(b" with type ", wide(e.trb_type));
-    text(b"\n");
+fn refusal(rt: &impl Print, name: &str, e: TrbParseError) -> io::Result<()> {
+    println!(rt; "{name} refusal {} with type {}", e.number, e.trb_type)
 }
 
-fn command(name: &[u8], raw: RawTrbBuffer) {
+fn command(rt: &impl Print, name: &str, raw: RawTrbBuffer) -> io::Result<()> {
     let parsed = CommandTrbVariant::parse(raw);
     let variant = parsed.variant;
     match variant {
-        CommandTrbVariant::Unrecognized(e) => refusal(name, e),
+        CommandTrbVariant::Unrecognized(e) => refusal(rt, name, e),
         CommandTrbVariant::SetTrDequeuePointer(d) => {
-            text(name);
-            number(b" cycle ", d.dequeue_cycle_state as u64);
-            number(b", type ", wide(d.stream_context_type));
-            hex(b", pointer 0x", d.dequeue_pointer);
-            hex(b", stream 0x", d.stream_id as u64);
-            text(b"\n");
+            let cycle = d.dequeue_cycle_state as u8;
+            print!(rt; "{name} cycle {cycle}, type {}", d.stream_context_type)?;
+            print!(rt; ", pointer {:#x}", d.dequeue_pointer)?;
+            println!(rt; ", stream {:#x}", d.stream_id)
         }
-        _ => text(b"another command\n"),
+        _ => println!(rt; "another command"),
     }
 }
 
-fn transfer(name: &[u8], raw: RawTrbBuffer) {
+fn transfer(rt: &impl Print, name: &str, raw: RawTrbBuffer) -> io::Result<()> {
     let parsed = TransferTrbVariant::parse(raw);
     let variant = parsed.variant;
     if let TransferTrbVariant::Unrecognized(e) = variant {
-        refusal(name, e);
+        refusal(rt, name, e)
     } else {
-        text(b"a transfer TRB\n");
+        println!(rt; "a transfer TRB")
     }
 }
 
@@ -90,16 +64,16 @@ fn trb_of(first: u8, trb_type: u8) -> RawTrbBuffer {
     raw
 }
 
-fn events() {
+fn events(rt: &impl Print) -> io::Result<()> {
     let completion = CommandCompletionEventTrbData {
         command_trb_pointer: 0x1000,
         command_completion_parameter: 0,
         completion_code: CompletionCode::Success,
         slot_id: 1,
     };
-    event(b"E1", EventTrb::CommandCompletion(completion), true);
+    event(rt, "E1", EventTrb::CommandCompletion(completion), true)?;
     let change = PortStatusChangeEventTrbData { port_id: 3 };
-    event(b"E2", EventTrb::PortStatusChange(change), false);
+    event(rt, "E2", EventTrb::PortStatusChange(change), false)?;
     let done = TransferEventTrbData {
         trb_pointer: 0x2010,
         trb_transfer_length: 5,
@@ -108,18 +82,18 @@ fn events() {
         endpoint_id: 3,
         slot_id: 2,
     };
-    event(b"E3", EventTrb::Transfer(done), true);
+    event(rt, "E3", EventTrb::Transfer(done), true)
 }
 
-fn parsers() {
-    command(b"P1", trb_of(0x08, 11));
+fn parsers(rt: &impl Print) -> io::Result<()> {
+    command(rt, "P1", trb_of(0x08, 11))?;
     let mut dequeue = trb_of(0x47, 16);
     dequeue[10] = 0x34;
     dequeue[11] = 0x12;
     dequeue[12] = 0x01;
-    command(b"P2", dequeue);
-    transfer(b"P4", trb_of(0, 6));
-    command(b"P4", trb_of(0, 18));
+    command(rt, "P2", dequeue)?;
+    transfer(rt, "P4", trb_of(0, 6))?;
+    command(rt, "P4", trb_of(0, 18))
 }
 
 // Addresses in a window are told from its start.
@@ -128,43 +102,47 @@ fn at(start: u64, offset: u64) -> u64 {
 }
 
 // A Link at the window's start that points to itself, fresh to a reader with state 1, by the eight bytes behind its pointer.
-fn chase(name: &[u8], start: u64, high: u64) {
+fn chase(rt: &impl Print, name: &str, start: u64, high: u64) -> io::Result<()> {
     let mut mem = [0u8; 16];
     let link = guest::whole(start, high);
     guest::write_trb(start, &mut mem, start, link);
     let chase = LinkedRing::new(start, true).next_trb(start, &mem);
     let answer = chase.answer;
-    text(name);
+    print!(rt; "{name}")?;
     match answer {
-        Answer::Trb => text(b" a TRB"),
-        Answer::NothingNew => text(b" nothing new"),
-        Answer::TooManyLinks => text(b" too many links"),
-        Answer::Refused(n) => number(b" refusal ", wide(n)),
+        Answer::Trb => print!(rt; " a TRB")?,
+        Answer::NothingNew => print!(rt; " nothing new")?,
+        Answer::TooManyLinks => print!(rt; " too many links")?,
+        Answer::Refused(n) => print!(rt; " refusal {n}")?,
     }
     let notes = chase.notes;
     let ring = chase.ring;
-    number(b", followed ", notes.links as u64);
-    number(b", state ", ring.cycle as u64);
-    text(b"\n");
+    let cycle = ring.cycle as u8;
+    println!(rt; ", followed {}, state {cycle}", notes.links)
 }
 
 // Adds a port's event to the ring and writes what came of it; where it was accepted, what cycle bit stands in the slot.
-fn add(name: &[u8], start: u64, mem: &mut [u8], ring: EventRing, offset: u64) -> EventRing {
+fn add(
+    rt: &impl Print,
+    name: &str,
+    start: u64,
+    mem: &mut [u8],
+    ring: EventRing,
+    offset: u64,
+) -> io::Result<EventRing> {
     let change = PortStatusChangeEventTrbData { port_id: 3 };
     let report = at(start, offset);
     let moved = ring.add(start, mem, EventTrb::PortStatusChange(change), report);
-    text(name);
-    hex(b" report 0x", report);
+    print!(rt; "{name} report {report:#x}")?;
     if moved.refusal != 0 {
-        number(b": refusal ", wide(moved.refusal));
+        println!(rt; ": refusal {}", moved.refusal)?;
     } else {
         let slot = guest::read_trb(start, mem, ring.place);
         let trb = slot.trb;
-        hex(b": accepted at 0x", ring.place);
-        number(b" with cycle ", trb::cycle_bit(trb) as u64);
+        let cycle = trb::cycle_bit(trb) as u8;
+        println!(rt; ": accepted at {:#x} with cycle {cycle}", ring.place)?;
     }
-    text(b"\n");
-    moved.ring
+    Ok(moved.ring)
 }
 
 // An entry of the table: the segment's base and its slots.
@@ -179,154 +157,191 @@ fn configured(start: u64, mem: &[u8], entries: u16) -> EventRing {
 }
 
 // One segment of two slots at 0x100.
-fn r1(name: &[u8], start: u64) {
+fn r1(rt: &impl Print, name: &str, start: u64) -> io::Result<()> {
     let mut mem = [0u8; 0x120];
     entry(start, &mut mem, 0, 0x100, 2);
     let mut ring = configured(start, &mem, 1);
-    ring = add(name, start, &mut mem, ring, 0x100);
-    ring = add(name, start, &mut mem, ring, 0x100);
-    ring = add(name, start, &mut mem, ring, 0x110);
-    ring = add(name, start, &mut mem, ring, 0x110);
-    add(name, start, &mut mem, ring, 0x100);
+    ring = add(rt, name, start, &mut mem, ring, 0x100)?;
+    ring = add(rt, name, start, &mut mem, ring, 0x100)?;
+    ring = add(rt, name, start, &mut mem, ring, 0x110)?;
+    ring = add(rt, name, start, &mut mem, ring, 0x110)?;
+    add(rt, name, start, &mut mem, ring, 0x100)?;
+    Ok(())
 }
 
 // One segment of one slot at 0x100.
-fn r2(name: &[u8], start: u64) {
+fn r2(rt: &impl Print, name: &str, start: u64) -> io::Result<()> {
     let mut mem = [0u8; 0x120];
     entry(start, &mut mem, 0, 0x100, 1);
     let mut ring = configured(start, &mem, 1);
-    ring = add(name, start, &mut mem, ring, 0x100);
-    add(name, start, &mut mem, ring, 0x100);
+    ring = add(rt, name, start, &mut mem, ring, 0x100)?;
+    add(rt, name, start, &mut mem, ring, 0x100)?;
+    Ok(())
 }
 
 // Two segments of one slot each, at 0x100 and 0x140.
-fn r3(name: &[u8], start: u64) {
+fn r3(rt: &impl Print, name: &str, start: u64) -> io::Result<()> {
     let mut mem = [0u8; 0x150];
     entry(start, &mut mem, 0, 0x100, 1);
     entry(start, &mut mem, 16, 0x140, 1);
     let mut ring = configured(start, &mem, 2);
-    ring = add(name, start, &mut mem, ring, 0x100);
-    ring = add(name, start, &mut mem, ring, 0x100);
-    ring = add(name, start, &mut mem, ring, 0x140);
-    add(name, start, &mut mem, ring, 0x140);
+    ring = add(rt, name, start, &mut mem, ring, 0x100)?;
+    ring = add(rt, name, start, &mut mem, ring, 0x100)?;
+    ring = add(rt, name, start, &mut mem, ring, 0x140)?;
+    add(rt, name, start, &mut mem, ring, 0x140)?;
+    Ok(())
 }
 
 // The number that a code has in the core, behind its name in xHCI.
-fn code(name: &[u8], code: CompletionCode) {
-    text(name);
-    number(b" ", wide(code.number()));
-    text(b"\n");
+fn code(rt: &impl Print, name: &str, code: CompletionCode) -> io::Result<()> {
+    println!(rt; "{name} {}", code.number())
 }
 
-// The codes of xHCI 1.2 table 6-90 in its order, twelve at a time. Into the exports and into Rust go numbers alone, so it is here that
+// The codes of xHCI 1.2 table 6-90 in its order, nine at a time. Into the exports and into Rust go numbers alone, so it is here that
 // names whose numbers are exchanged show.
-fn first_codes() {
-    code(b"Invalid", CompletionCode::Invalid);
-    code(b"Success", CompletionCode::Success);
-    code(b"Data Buffer Error", CompletionCode::DataBufferError);
+fn first_codes(rt: &impl Print) -> io::Result<()> {
+    code(rt, "Invalid", CompletionCode::Invalid)?;
+    code(rt, "Success", CompletionCode::Success)?;
+    code(rt, "Data Buffer Error", CompletionCode::DataBufferError)?;
     code(
-        b"Babble Detected Error",
+        rt,
+        "Babble Detected Error",
         CompletionCode::BabbleDetectedError,
-    );
+    )?;
     code(
-        b"USB Transaction Error",
+        rt,
+        "USB Transaction Error",
         CompletionCode::UsbTransactionError,
-    );
-    code(b"TRB Error", CompletionCode::TrbError);
-    code(b"Stall Error", CompletionCode::StallError);
-    code(b"Resource Error", CompletionCode::ResourceError);
-    code(b"Bandwidth Error", CompletionCode::BandwidthError);
+    )?;
+    code(rt, "TRB Error", CompletionCode::TrbError)?;
+    code(rt, "Stall Error", CompletionCode::StallError)?;
+    code(rt, "Resource Error", CompletionCode::ResourceError)?;
+    code(rt, "Bandwidth Error", CompletionCode::BandwidthError)
+}
+
+fn second_codes(rt: &impl Print) -> io::Result<()> {
     code(
-        b"No Slots Available Error",
+        rt,
+        "No Slots Available Error",
         CompletionCode::NoSlotsAvailableError,
-    );
+    )?;
     code(
-        b"Invalid Stream Type Error",
+        rt,
+        "Invalid Stream Type Error",
         CompletionCode::InvalidStreamTypeError,
-    );
+    )?;
     code(
-        b"Slot Not Enabled Error",
+        rt,
+        "Slot Not Enabled Error",
         CompletionCode::SlotNotEnabledError,
-    );
-}
-
-fn middle_codes() {
+    )?;
     code(
-        b"Endpoint Not Enabled Error",
+        rt,
+        "Endpoint Not Enabled Error",
         CompletionCode::EndpointNotEnabledError,
-    );
-    code(b"Short Packet", CompletionCode::ShortPacket);
-    code(b"Ring Underrun", CompletionCode::RingUnderrun);
-    code(b"Ring Overrun", CompletionCode::RingOverrun);
+    )?;
+    code(rt, "Short Packet", CompletionCode::ShortPacket)?;
+    code(rt, "Ring Underrun", CompletionCode::RingUnderrun)?;
+    code(rt, "Ring Overrun", CompletionCode::RingOverrun)?;
     code(
-        b"VF Event Ring Full Error",
+        rt,
+        "VF Event Ring Full Error",
         CompletionCode::VfEventRingFullError,
-    );
-    code(b"Parameter Error", CompletionCode::ParameterError);
+    )?;
+    code(rt, "Parameter Error", CompletionCode::ParameterError)
+}
+
+fn third_codes(rt: &impl Print) -> io::Result<()> {
     code(
-        b"Bandwidth Overrun Error",
+        rt,
+        "Bandwidth Overrun Error",
         CompletionCode::BandwidthOverrunError,
-    );
-    code(b"Context State Error", CompletionCode::ContextStateError);
+    )?;
+    code(rt, "Context State Error", CompletionCode::ContextStateError)?;
     code(
-        b"No Ping Response Error",
+        rt,
+        "No Ping Response Error",
         CompletionCode::NoPingResponseError,
-    );
-    code(b"Event Ring Full Error", CompletionCode::EventRingFullError);
+    )?;
     code(
-        b"Incompatible Device Error",
+        rt,
+        "Event Ring Full Error",
+        CompletionCode::EventRingFullError,
+    )?;
+    code(
+        rt,
+        "Incompatible Device Error",
         CompletionCode::IncompatibleDeviceError,
-    );
-    code(b"Missed Service Error", CompletionCode::MissedServiceError);
+    )?;
+    code(
+        rt,
+        "Missed Service Error",
+        CompletionCode::MissedServiceError,
+    )?;
+    code(
+        rt,
+        "Command Ring Stopped",
+        CompletionCode::CommandRingStopped,
+    )?;
+    code(rt, "Command Aborted", CompletionCode::CommandAborted)?;
+    code(rt, "Stopped", CompletionCode::Stopped)
 }
 
-fn last_codes() {
-    code(b"Command Ring Stopped", CompletionCode::CommandRingStopped);
-    code(b"Command Aborted", CompletionCode::CommandAborted);
-    code(b"Stopped", CompletionCode::Stopped);
+fn last_codes(rt: &impl Print) -> io::Result<()> {
     code(
-        b"Stopped - Length Invalid",
+        rt,
+        "Stopped - Length Invalid",
         CompletionCode::StoppedLengthInvalid,
-    );
+    )?;
     code(
-        b"Stopped - Short Packet",
+        rt,
+        "Stopped - Short Packet",
         CompletionCode::StoppedShortedPacket,
-    );
+    )?;
     code(
-        b"Max Exit Latency Too Large Error",
+        rt,
+        "Max Exit Latency Too Large Error",
         CompletionCode::MaxExitLatencyTooLargeError,
-    );
-    code(b"Isoch Buffer Overrun", CompletionCode::IsochBufferOverrun);
-    code(b"Event Lost Error", CompletionCode::EventLostError);
-    code(b"Undefined Error", CompletionCode::UndefinedError);
+    )?;
     code(
-        b"Invalid Stream ID Error",
+        rt,
+        "Isoch Buffer Overrun",
+        CompletionCode::IsochBufferOverrun,
+    )?;
+    code(rt, "Event Lost Error", CompletionCode::EventLostError)?;
+    code(rt, "Undefined Error", CompletionCode::UndefinedError)?;
+    code(
+        rt,
+        "Invalid Stream ID Error",
         CompletionCode::InvalidStreamIdError,
-    );
+    )?;
     code(
-        b"Secondary Bandwidth Error",
+        rt,
+        "Secondary Bandwidth Error",
         CompletionCode::SecondaryBandwidthError,
-    );
+    )?;
     code(
-        b"Split Transaction Error",
+        rt,
+        "Split Transaction Error",
         CompletionCode::SplitTransactionError,
-    );
+    )
 }
 
-fn main() {
-    events();
-    parsers();
-    chase(b"L1", 0, 0x1801_0000_0000);
-    chase(b"L2", 0, 0x1803_0000_0000);
-    r1(b"R1", 0);
-    r2(b"R2", 0);
-    r3(b"R3", 0);
-    chase(b"L1 moved", MOVED, 0x1801_0000_0000);
-    chase(b"L2 moved", MOVED, 0x1803_0000_0000);
-    r1(b"R1 moved", MOVED);
-    r2(b"R2 moved", MOVED);
-    r3(b"R3 moved", MOVED);
-    first_codes();
-    middle_codes();
-    last_codes();
+fn main(rt: HostRuntime) -> io::Result<()> {
+    events(&rt)?;
+    parsers(&rt)?;
+    chase(&rt, "L1", 0, 0x1801_0000_0000)?;
+    chase(&rt, "L2", 0, 0x1803_0000_0000)?;
+    r1(&rt, "R1", 0)?;
+    r2(&rt, "R2", 0)?;
+    r3(&rt, "R3", 0)?;
+    chase(&rt, "L1 moved", MOVED, 0x1801_0000_0000)?;
+    chase(&rt, "L2 moved", MOVED, 0x1803_0000_0000)?;
+    r1(&rt, "R1 moved", MOVED)?;
+    r2(&rt, "R2 moved", MOVED)?;
+    r3(&rt, "R3 moved", MOVED)?;
+    first_codes(&rt)?;
+    second_codes(&rt)?;
+    third_codes(&rt)?;
+    last_codes(&rt)
 }

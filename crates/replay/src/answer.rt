@@ -33,17 +33,30 @@ pub(crate) fn byte(out: &mut [u8], at: usize, b: u8) -> usize {
     at
 }
 
+fn hex_digit(n: u64) -> u8 {
+    let digit = (n % 16) as u8;
+    if digit < 10 {
+        b'0' + digit
+    } else {
+        b'a' + (digit - 10)
+    }
+}
+
 // Puts n, of so many digits or as many as it needs.
 fn digits(out: &mut [u8], at: usize, n: u64, least: usize) -> usize {
-    let mut text = [0u8; 16];
-    let count = io::hex(n, least, &mut text);
+    let needed = (67 - n.leading_zeros()) as usize / 4;
+    let count = needed.max(least);
     if out.len() < count {
         return at;
     }
     if out.len() - count < at {
         return at;
     }
-    out[at..at + count].copy_from_slice(&text[..count]);
+    let mut rest = n;
+    for i in (at..at + count).rev() {
+        out[i] = hex_digit(rest);
+        rest = rest / 16;
+    }
     at + count
 }
 

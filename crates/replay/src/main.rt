@@ -10,10 +10,11 @@ mod input;
 mod rings;
 mod trbs;
 
-ghost use Rattle.std.specs.Prelude.{◌≡◌, length};
+ghost use Rattle.std.specs.Prelude.{◌≡◌, ◌≢◌, ℕ, ◌<◌, ◌≤◌, length, IfOk, slice_index};
 
-use libc::{STDIN_FILENO, STDOUT_FILENO};
 use lomvigast_ffi::rings::CEventRing;
+use std::io;
+use std::io::Read;
 
 // How many differing lines are shown.
 const SHOWN: u64 = 10;
@@ -41,14 +42,44 @@ fn room() -> [u8; 0x10_0000]
     [0u8; 0x10_0000]
 }
 
+// Reads until the room is full or the input ends, and answers how many bytes that were.
+fn read_full(input: &mut impl Read, room: &mut [u8]) -> io::Result<usize>
+    ensures { IfOk result (λ n. n ≤ length room.new) }
+{
+    let mut length = 0;
+    for _ in 0..u64::MAX {
+        let read = input.read(&mut room[length..])?;
+        if read == 0 {
+            break;
+        }
+        length += read;
+    }
+    Ok(length)
+}
+
+// Where such a byte first is from a place on, or else where the text ends.
+fn find(text: &[u8], from: usize, b: u8) -> usize
+    requires { from ≤ length text.now }
+    ensures after { from ≤ result }
+    ensures within { result ≤ length text.now }
+    ensures before { (k : ℕ) → from ≤ k → k < result → slice_index text.now k ≢ b }
+    ensures found { result < length text.now → slice_index text.now result ≡ b }
+{
+    for i in from..text.len() {
+        if text[i] == b {
+            return i;
+        }
+    }
+    text.len()
+}
+
 fn count(counts: &mut Counts, place: u8) {
     let at = (place % 32) as usize;
     counts[at] = counts[at].wrapping_add(1);
 }
 
-fn show(label: &[u8], counts: &Counts, place: u8) {
-    io::write_all(STDOUT_FILENO, label);
-    io::print_decimal(STDOUT_FILENO, counts[(place % 32) as usize]);
+fn show(rt: &impl Print, label: &str, counts: &Counts, place: u8) -> io::Result<()> {
+    print!(rt; "{label}{}", counts[(place % 32) as usize])
 }
 
 // The letter of a line's kind. A small one begins a line that is wrong on purpose.
@@ -104,28 +135,29 @@ fn run(letter: u8, given: &[u64; 16], memory: &mut [u8], ring: &mut CEventRing) 
 }
 
 // Counts a line that differs, or does not and must, and shows it and the core's.
-fn otherwise(line: &[u8], text: &[u8], counts: &mut Counts) {
+fn otherwise(rt: &impl Print, line: &[u8], text: &[u8], counts: &mut Counts) -> io::Result<()> {
     if counts[31] < SHOWN {
-        show(b"line ", counts, LINES);
-        io::write_all(STDOUT_FILENO, b" is not as told: ");
-        io::write_all(STDOUT_FILENO, line);
-        io::write_all(STDOUT_FILENO, b"; got ");
-        io::write_all(STDOUT_FILENO, text);
-        io::write_all(STDOUT_FILENO, b"\n");
+        show(rt, "line ", counts, LINES)?;
+        rt.write_all(b" is not as told: ")?;
+        rt.write_all(line)?;
+        rt.write_all(b"; got ")?;
+        rt.write_all(text)?;
+        rt.write_all(b"\n")?;
     }
     count(counts, OTHERWISE);
+    Ok(())
 }
 
 // Whether two lines are the same up to the colon.
 fn same_input(a: &[u8], b: &[u8]) -> bool {
-    let end_a = bytes::scan::find(a, 0, a.len(), b':');
-    let end_b = bytes::scan::find(b, 0, b.len(), b':');
-    check::same(&a[0..end_a], &b[0..end_b])
+    let end_a = find(a, 0, b':');
+    let end_b = find(b, 0, b':');
+    a[0..end_a] == b[0..end_b]
 }
 
 // Whether a line and the core's are as the letter tells: the same, or other in the answer and nowhere else.
 fn as_told(letter: u8, line: &[u8], text: &[u8]) -> bool {
-    let same = check::same(line, text);
+    let same = line == text;
     if kind(letter) == letter {
         return same;
     }
@@ -133,19 +165,25 @@ fn as_told(letter: u8, line: &[u8], text: &[u8]) -> bool {
 }
 
 // Compares a line, and counts it. M and P lines make what the cases are run on, and are none.
-fn compare(letter: u8, line: &[u8], given: &[u64; 16], answer: &[u64; 16], counts: &mut Counts) {
+fn compare(
+    rt: &impl Print,
+    letter: u8,
+    line: &[u8],
+    given: &[u64; 16],
+    answer: &[u64; 16],
+    counts: &mut Counts,
+) -> io::Result<()> {
     let forms = forms(kind(letter));
     let mut text = [0u8; 256];
     let start = answer::byte(&mut text, 0, letter);
     let middle = answer::text(&mut text, start, forms.input, given);
     let end = answer::text(&mut text, middle, forms.answer, answer) % 257;
     if (forms.input == 0) | !as_told(letter, line, &text[0..end]) {
-        otherwise(line, &text[0..end], counts);
-        return;
+        return otherwise(rt, line, &text[0..end], counts);
     }
     if kind(letter) != letter {
         count(counts, WRONG);
-        return;
+        return Ok(());
     }
     let case = match letter {
         b'M' | b'P' => NO_CASE,
@@ -153,20 +191,22 @@ fn compare(letter: u8, line: &[u8], given: &[u64; 16], answer: &[u64; 16], count
     };
     count(counts, letter);
     count(counts, case);
+    Ok(())
 }
 
 // Runs a line on a memory of this size, which an M line changes, and answers the size for the next.
 fn next_line(
+    rt: &impl Print,
     line: &[u8],
     size: usize,
     memory: &mut [u8],
     ring: &mut CEventRing,
     counts: &mut Counts,
-) -> usize {
+) -> io::Result<usize> {
     count(counts, LINES);
     let letter = if line.len() == 0 { 0 } else { line[0] };
     if letter == b'#' {
-        return size;
+        return Ok(size);
     }
     let given = input::numbers(line);
     let now = if letter == b'M' {
@@ -175,61 +215,63 @@ fn next_line(
         size
     };
     if memory.len() < now {
-        otherwise(line, b"no memory", counts);
-        return size;
+        otherwise(rt, line, b"no memory", counts)?;
+        return Ok(size);
     }
     let answer = run(kind(letter), &given, &mut memory[0..now], ring);
-    compare(letter, line, &given, &answer, counts);
-    now
+    compare(rt, letter, line, &given, &answer, counts)?;
+    Ok(now)
 }
 
-fn all_lines(text: &[u8], memory: &mut [u8], counts: &mut Counts) {
+fn all_lines(
+    rt: &impl Print,
+    text: &[u8],
+    memory: &mut [u8],
+    counts: &mut Counts,
+) -> io::Result<()> {
     let mut ring = [0u64; 7];
     let mut size = 0;
     let mut at = 0;
     while at < text.len() {
-        let end = bytes::scan::find(text, at, text.len(), b'\n');
-        size = next_line(&text[at..end], size, memory, &mut ring, counts);
+        let end = find(text, at, b'\n');
+        size = next_line(rt, &text[at..end], size, memory, &mut ring, counts)?;
         at = end + 1;
     }
+    Ok(())
 }
 
 // Shows how many lines agree of each kind, the letter of which begins its label.
-fn kinds(labels: &[u8], counts: &Counts) {
-    let mut at = 0;
-    while at < labels.len() {
-        let end = bytes::scan::find(labels, at, labels.len(), b'\n');
-        io::write_all(STDOUT_FILENO, &labels[at..end]);
-        show(b": ", counts, labels[at]);
-        io::write_all(STDOUT_FILENO, b"\n");
-        at = end + 1;
+fn kinds(rt: &impl Print, labels: &str, counts: &Counts) -> io::Result<()> {
+    for label in labels.lines() {
+        print!(rt; "{label}")?;
+        show(rt, ": ", counts, label.bytes().next().unwrap_or(0))?;
+        println!(rt)?;
     }
+    Ok(())
 }
 
-fn totals(counts: &mut Counts) {
+fn totals(rt: &impl Print, counts: &mut Counts) -> io::Result<()> {
     let judged = counts[0].wrapping_add(counts[27]);
     counts[30] = judged.wrapping_add(counts[31]);
-    show(b"replay: ", counts, CASES);
-    show(b" cases read, ", counts, AGREE);
-    show(b" agree, ", counts, WRONG);
-    show(b" differ as they must, ", counts, OTHERWISE);
-    io::write_all(STDOUT_FILENO, b" are otherwise\n");
+    show(rt, "replay: ", counts, CASES)?;
+    show(rt, " cases read, ", counts, AGREE)?;
+    show(rt, " agree, ", counts, WRONG)?;
+    show(rt, " differ as they must, ", counts, OTHERWISE)?;
+    println!(rt; " are otherwise")
 }
 
-fn main() {
+fn main(rt: HostRuntime) -> io::Result<()> {
     let mut file = room();
-    let length = io::read_full(STDIN_FILENO, &mut file);
+    let length = read_full(&mut rt.stdin(), &mut file)?;
     if length == file.len() {
-        io::write_all(
-            STDOUT_FILENO,
-            b"the file may be longer than what was read\n",
-        );
+        println!(rt; "the file may be longer than what was read")?;
     }
     let mut memory = room();
     let mut counts = [0u64; 32];
-    all_lines(&file[..length], &mut memory, &mut counts);
+    all_lines(&rt, &file[..length], &mut memory, &mut counts)?;
     kinds(
-        b"C commands parsed
+        &rt,
+        "C commands parsed
 T transfer TRBs parsed
 L links parsed
 E events written
@@ -241,6 +283,6 @@ M memories made for them
 P TRBs put into these
 ",
         &counts,
-    );
-    totals(&mut counts);
+    )?;
+    totals(&rt, &mut counts)
 }

@@ -9,9 +9,7 @@ const START: u64 = 0;
 
 // A memory of zeros and a new event ring.
 pub(crate) fn make(memory: &mut [u8], ring: &mut CEventRing) -> [u64; 16] {
-    for i in 0..memory.len() {
-        memory[i] = 0;
-    }
+    memory.fill(0);
     rings::lomvigast_reset(ring);
     [0u64; 16]
 }
@@ -68,13 +66,9 @@ pub(crate) fn configure(given: &[u64; 16], memory: &[u8], ring: &mut CEventRing)
     state(refusal, ring, 0)
 }
 
-// FNV-1a's step: the product of what is summed and the prime, 2^40 + 0x1b3, modulo 2^64, by the shift, the high and the low half.
+// FNV-1a's step: the product of what is summed and the prime, 2^40 + 0x1b3, modulo 2^64.
 fn fnv(sum: u64, b: u8) -> u64 {
-    let n = sum ^ (b as u64);
-    let shifted = n % 0x100_0000 * 0x100_0000_0000;
-    let high = n / 0x1_0000_0000 % 0x1_0000_0000 * 0x1b3 % 0x1_0000_0000 * 0x1_0000_0000;
-    let low = n % 0x1_0000_0000 * 0x1b3;
-    shifted.wrapping_add(high).wrapping_add(low)
+    (sum ^ (b as u64)).wrapping_mul(0x100_0000_01b3)
 }
 
 // FNV-1a, 64 bits, of all bytes.
