@@ -1,33 +1,31 @@
 -- Demand 3, by an invariant between the world and the plain list: ring and reader stand at the positions that the numbers of accepted and taken
 -- events name, the report is the place of the position that the number reported names, the table is the set-up's, and the slots hold the queue.
 -- Assumes nothing.
-use Prim.Native.Nat.{ℕ, suc, ◌+◌, ◌*◌, ◌-◌, ◌%◌, ◌≤◌, ◌<◌}
+use Prim.Native.Nat.{ℕ, ◌+◌, ◌*◌, ◌-◌, ◌≤◌, ◌<◌}
 use mathlib.Core.Path.{◌≡◌, refl, sym, ◌∙◌, ap, ap₂, subst}
 use mathlib.Core.Logic.{◌≢◌, ⊎_swap}
-use mathlib.Core.Bool.{Bool, true, false, not, cond}
+use mathlib.Core.Bool.{Bool, true, false, cond}
 use mathlib.Core.List.{List, [], ◌∷◌, ◌++◌}
 use native.Mathlib.Omega.{arith}
 use native.Mathlib.Numerals.{add-one}
 use native.Mathlib.Nat.{add-zero, div-one}
 use native.Mathlib.Decide.{ℕ_discrete, dec_lt}
-use lib.ListN.{length, get_or, length-append, get_or-append}
+use lib.ListN.{length, length-append, get_or-append}
 use lib.Seq.{get_or-append_seam}
 use lib.Dec.{eqb}
 use borrow.Author.Tests.{eq-eqb, ne_eqb}
 use Rattle.guest.specs.Judge.{judge}
 use Rattle.guest.specs.Memory.{Memory, trb_at, write}
-use Rattle.guest.proofs.Judge.{judge_passes}
 use Rattle.guest.proofs.Memory.{Within, inside_within, write_length}
 use Rattle.trb.specs.Trb.{cycle_of}
-use Rattle.trb.specs.Events.{valid, Typed, event_bytes, event_of}
+use Rattle.trb.specs.Events.{valid, Typed, event_bytes}
 use Rattle.trb.specs.declared.event.EventTrb.{EventTrb}
-use Rattle.trb.specs.declared.event.ParsedEvent.{ParsedEvent}
 use Rattle.trb.proofs.OneEncoding.{reads_back, cycle_back, bytes_length}
 use Rattle.event_ring.specs.Ring.{next_state, full, refused_at, moved_to, started, configure_tests, configured, added, added_memory, reader_configured}
 use Rattle.event_ring.specs.declared.EventRing.{EventRing}
 use Rattle.event_ring.specs.declared.Moved.{Moved}
-use Rattle.delivery.specs.Plain.{Op, adds, takes, reports, changes, Answer, gives, Turn, turn, answers, final, Plain, nth, fits, list_machine}
-use Rattle.delivery.specs.World.{Found, found, none, Reader, World, decoded, taking, ring_machine, standard_reader, port_reader}
+use Rattle.delivery.specs.Plain.{Op, adds, takes, reports, changes, Turn, answers, final, Plain, nth, fits, list_machine}
+use Rattle.delivery.specs.World.{Reader, World, ring_machine, standard_reader, port_reader}
 use Rattle.delivery.specs.Demand3.{Setup, base, slots, Apart, Premises, Outside, Allowed, AllAllowed, empty_list, Delivers, Demand3, Statement}
 use Rattle.delivery.specs.Demand3 as demand
 use Rattle.delivery.proofs.Queue

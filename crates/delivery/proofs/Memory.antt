@@ -2,11 +2,10 @@
 use Prim.Native.Nat.{ℕ, zero, suc, ◌+◌, ◌*◌, ◌≤◌, ◌<◌}
 use mathlib.Core.Path.{◌≡◌, refl, sym, ◌∙◌, ap, ap₂}
 use mathlib.Core.Logic.{inl, inr}
-use mathlib.Core.Bool.{Bool, true, false}
+use mathlib.Core.Bool.{false}
 use mathlib.Core.List.{List}
 use native.Mathlib.Omega.{arith}
-use native.Mathlib.Nat.{add_assoc}
-use lib.ListN.{length, get_or}
+use lib.ListN.{length}
 use lib.Seq.{ext_get_or}
 use Rattle.guest.specs.Bytes as bytes
 use Rattle.guest.specs.Memory.{Memory, offset, byte, le, part, trb_at, write}

@@ -1,17 +1,13 @@
 -- What both readers do at a position of the walk, in a memory that keeps the table. Assumes nothing.
 use Prim.Native.Nat.{ℕ, suc, ◌+◌, ◌*◌, ◌<◌}
-use mathlib.Core.Path.{◌≡◌, refl, sym, ap, ap₂, subst, ◌∙◌}
+use mathlib.Core.Path.{◌≡◌, refl, sym, ap, ◌∙◌}
 use mathlib.Core.Bool.{Bool, true, false, not, cond, beq}
-use mathlib.Core.List.{List}
-use native.Mathlib.Nat.{add-zero}
 use native.Mathlib.Numerals.{add-one}
 use native.Mathlib.Omega.{arith}
-use Rattle.guest.specs.Judge.{judge}
 use Rattle.guest.specs.Memory.{Memory, trb_at}
 use Rattle.guest.proofs.Judge.{judge_passes}
 use Rattle.trb.specs.Trb.{cycle_of}
-use Rattle.event_ring.specs.Ring.{entry_at, entry_of, next_state, fresh_of, take_tests, take_refused, taken_at, nothing_at, take, reader_at, reader_configured, configured, configure_tests, refused_at, moved_to}
-use Rattle.event_ring.specs.Ring as ring
+use Rattle.event_ring.specs.Ring.{entry_of, fresh_of, take_tests, take_refused, taken_at, nothing_at, take, reader_at, reader_configured}
 use Rattle.event_ring.specs.Consumer.{Consumer, dequeue, event?, onward}
 use Rattle.event_ring.specs.declared.Entry.{Entry}
 use Rattle.event_ring.specs.declared.EventRing.{EventRing}
@@ -19,10 +15,10 @@ use Rattle.event_ring.specs.declared.EventReader.{EventReader}
 use Rattle.event_ring.specs.declared.Taken.{Taken}
 use Rattle.event_ring.proofs.Laws.{limits}
 use Rattle.event_ring.proofs.Standard.{StandsAt, steps}
-use Rattle.delivery.specs.Demand3.{Setup, base, size, Premises}
-use Rattle.delivery.specs.World.{Found, found, none, Reader, standard_reader, port_reader, consumed, took_as}
+use Rattle.delivery.specs.Demand3.{Setup, Premises}
+use Rattle.delivery.specs.World.{found, none, Reader, standard_reader, port_reader, took_as}
 use Rattle.delivery.proofs.Walk.{walk, at, on, good_at, first}
-use Rattle.delivery.proofs.Sound.{Sound, Kept, kept_earlier, next_passes, sound, next_walk, table_entry, take_passes, configures}
+use Rattle.delivery.proofs.Sound.{Kept, kept_earlier, next_passes, sound, next_walk, table_entry, take_passes, configures}
 
 fresh_yes : (b c : Bool) → b ≡ c → beq b c ≡ true
 fresh_yes true c e = rw (← e)

@@ -1,23 +1,23 @@
 -- The ring's operations at a position of the walk, in a memory that keeps the table: nothing is refused but a full ring and an event that is
 -- not valid, and a step leads to the next position. Assumes nothing.
-use Prim.Native.Nat.{ℕ, suc, ◌+◌, ◌*◌, ◌-◌, ◌%◌, ◌≤◌, ◌<◌, ◌^◌}
-use mathlib.Core.Path.{◌≡◌, refl, sym, ap, subst, ◌∙◌}
+use Prim.Native.Nat.{ℕ, suc, ◌+◌, ◌*◌, ◌-◌, ◌%◌, ◌≤◌, ◌<◌}
+use mathlib.Core.Path.{◌≡◌, refl, ap, subst, ◌∙◌}
 use mathlib.Core.Bool.{Bool, true, false, not, cond}
-use mathlib.Core.List.{List, [], ◌∷◌}
+use mathlib.Core.List.{[], ◌∷◌}
 use native.Mathlib.Omega.{arith}
 use native.Mathlib.Decide.{ℕ_discrete}
 use native.Mathlib.Nat.{add-zero}
 use lib.ListN.{length}
 use lib.Dec.{eqb}
 use borrow.Author.Tests.{eq-eqb, ne_eqb, le-leb, lt-ltb}
-use Rattle.guest.specs.Judge.{Tests, judge}
+use Rattle.guest.specs.Judge.{judge}
 use Rattle.guest.specs.Memory.{Memory, byte, inside}
 use Prim.{tt}
 use Rattle.guest.proofs.Judge.{Passes, judge_passes}
 use Rattle.guest.proofs.Memory.{inside_within, inside_part}
 use Rattle.trb.specs.Events.{valid}
 use Rattle.trb.specs.declared.event.EventTrb.{EventTrb}
-use Rattle.event_ring.specs.Ring.{entry_at, entry_of, good_entry, count_ok, ok_state, last, next_index, entered, along, next_state, entry_tests, next_tests, full, add_tests, configure_tests, started, configured, refused_at, moved_to, fresh_of, take_tests}
+use Rattle.event_ring.specs.Ring.{entry_at, entry_of, good_entry, ok_state, last, next_index, entered, along, next_state, entry_tests, next_tests, full, add_tests, configure_tests, started, configured, refused_at, moved_to, fresh_of, take_tests}
 use Rattle.event_ring.specs.declared.Entry.{Entry}
 use Rattle.event_ring.specs.declared.EventRing.{EventRing}
 use Rattle.event_ring.proofs.Laws.{judge_then}

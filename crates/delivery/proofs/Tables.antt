@@ -1,11 +1,11 @@
 -- No segment lies on the table: where one did, an entry of the table would be zero, and so of size 0. Assumes nothing.
-use Prim.Native.Nat.{ℕ, suc, ◌+◌, ◌*◌, ◌-◌, ◌%◌, ◌/◌, ◌≤◌, ◌<◌}
-use mathlib.Core.Path.{◌≡◌, refl, sym, ap, subst, ◌∙◌}
-use mathlib.Core.Logic.{◌⊎◌, inl, inr}
+use Prim.Native.Nat.{ℕ, ◌+◌, ◌*◌, ◌-◌, ◌/◌, ◌≤◌, ◌<◌}
+use mathlib.Core.Path.{◌≡◌, subst}
+use mathlib.Core.Logic.{inl, inr}
 use native.Mathlib.Decide.{dec_le}
 use native.Mathlib.Omega.{arith}
-use Rattle.guest.specs.Memory.{Memory, byte, le}
-use Rattle.event_ring.specs.Ring.{entry_at, entry_of}
+use Rattle.guest.specs.Memory.{byte, le}
+use Rattle.event_ring.specs.Ring.{entry_at}
 use Rattle.delivery.specs.Demand3.{Setup, base, size, Apart, Premises}
 use Rattle.delivery.proofs.Memory.{le_zeros}
 use Rattle.delivery.proofs.Walk.{good_at}

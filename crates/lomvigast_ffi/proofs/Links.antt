@@ -1,21 +1,20 @@
 -- A chase over links that leave nothing to note: what a look at the place comes to, in the terms of the code. Assumes nothing.
-use Rattle.std.proofs.Common.{◌≡◌, ℕ, zero, suc, ◌+◌, ◌-◌, ◌*◌, ◌/◌, ◌%◌, ◌^◌, ◌<◌, ◌≤◌, Bool, true, false, not, ◌||◌, eqb, List, [], ◌∷◌, replicate, sym, refl, ap, ◌∙◌, ap₂, add-zero, div-one, arith, eq-eqb, ne_eqb}
+use Rattle.std.proofs.Common.{◌≡◌, ℕ, zero, suc, ◌+◌, ◌-◌, ◌/◌, ◌%◌, ◌<◌, true, false, not, eqb, List, [], ◌∷◌, replicate, refl, ap, ◌∙◌, ap₂, arith, eq-eqb, ne_eqb}
 use mathlib.Core.Bool.{beq}
 use Rattle.guest.specs.Bytes.{le}
 use Rattle.guest.specs.Memory.{Memory, inside, trb_at}
 use Rattle.guest.specs.Fields.{dword, low_of, high_of}
 use Rattle.guest.proofs.Bytes.{Bytes}
 use Rattle.guest.proofs.Fields.{halves}
-use Rattle.trb.specs.Trb.{bit, aligned_of}
+use Rattle.trb.specs.Trb.{aligned_of}
 use Rattle.trb.specs.Links.{link_of, link_trb}
 use Rattle.trb.specs.declared.link.LinkTrb.{LinkTrb}
-use Rattle.trb.specs.declared.link.LinkOrOther.{LinkOrOther}
 use Rattle.linked_ring.specs.Chase.{ring_at, chase_from, onward, ended, found, followed, noted}
 use Rattle.linked_ring.specs.declared.LinkedRing.{LinkedRing}
 use Rattle.linked_ring.specs.declared.Notes.{Notes}
 use Rattle.linked_ring.specs.declared.Answer.{Answer}
 use Rattle.linked_ring.specs.declared.Chase.{Chase}
-use Rattle.lomvigast_ffi.specs.Linked.{ring_words, ring_after, flat_chase}
+use Rattle.lomvigast_ffi.specs.Linked.{ring_after, flat_chase}
 use Rattle.lomvigast_ffi.specs.declared.linked.CChase.{CChase}
 use Rattle.lomvigast_ffi.proofs.Slots.{four_below, fresh_yes, fresh_no}
 use Rattle.lomvigast_ffi.proofs.States.{bit_one}

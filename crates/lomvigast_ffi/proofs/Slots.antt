@@ -1,5 +1,5 @@
 -- Sixteen bytes of memory read as numbers: how large they are, and whether the bytes are fresh. Assumes nothing.
-use Rattle.std.proofs.Common.{◌≡◌, ℕ, zero, suc, ◌+◌, ◌/◌, ◌%◌, ◌^◌, ◌<◌, ◌≤◌, Bool, true, false, eqb, List, refl, div-one, arith}
+use Rattle.std.proofs.Common.{◌≡◌, ℕ, zero, suc, ◌+◌, ◌%◌, ◌^◌, ◌<◌, ◌≤◌, Bool, true, false, eqb, List, refl, div-one, arith}
 use mathlib.Core.Bool.{beq}
 use Rattle.guest.specs.Bytes.{le}
 use Rattle.guest.specs.Memory.{Memory, offset, trb_at}

@@ -1,10 +1,8 @@
 -- A ring's words and its state: what the words of the usual case say, and where a step leads. Assumes nothing.
-use Prim.{tt}
-use Rattle.std.proofs.Common.{◌≡◌, ℕ, zero, suc, ◌+◌, ◌-◌, ◌%◌, ◌^◌, ◌<◌, ◌≤◌, Bool, true, false, cond, ◌&&◌, eqb, ltb, leb, List, [], ◌∷◌, get_or, sym, refl, ap, ◌∙◌, ap₂, mod-eq_of_lt, arith, ltb-true, lt-ltb, eq-eqb, ne_eqb, eqb-true, le-leb, leb-true}
+use Rattle.std.proofs.Common.{◌≡◌, ℕ, zero, suc, ◌+◌, ◌-◌, ◌%◌, ◌^◌, ◌<◌, ◌≤◌, true, false, ◌&&◌, eqb, ltb, leb, List, get_or, refl, mod-eq_of_lt, arith, ltb-true, lt-ltb, eq-eqb, ne_eqb, eqb-true, le-leb, leb-true}
 use Rattle.guest.proofs.Tests.{both}
 use Rattle.trb.specs.Trb.{bit}
-use Rattle.event_ring.specs.Ring.{ok_state, along, empty}
-use Rattle.event_ring.specs.declared.EventRing.{EventRing}
+use Rattle.event_ring.specs.Ring.{ok_state, along}
 use Rattle.lomvigast_ffi.specs.Rings.{words_of, fits, fields_of, state_of, plain, stepped}
 
 -- a flag's word

@@ -1,20 +1,18 @@
 -- An add and a take in the usual case, by words. Assumes nothing.
-use Rattle.std.proofs.Common.{◌≡◌, ℕ, zero, suc, ◌+◌, ◌-◌, ◌*◌, ◌/◌, ◌%◌, ◌^◌, ◌<◌, ◌≤◌, Bool, true, false, eqb, List, [], ◌∷◌, length, get_or, sym, refl, ap, ◌∙◌, ap₂, div-one, arith, eq-eqb, ne_eqb}
-use mathlib.Core.Bool.{beq}
+use Rattle.std.proofs.Common.{◌≡◌, ℕ, ◌+◌, ◌-◌, ◌%◌, ◌^◌, ◌≤◌, true, eqb, List, [], ◌∷◌, get_or, sym, refl, ap, ◌∙◌, arith}
 use Rattle.guest.specs.Judge.{judge}
 use Rattle.guest.specs.Memory.{Memory, inside, trb_at, write}
 use Rattle.guest.specs.Fields.{dword, low_of, high_of, whole_of}
 use Rattle.guest.specs.Answers.{write_memory}
 use Rattle.trb.specs.Events.{event_bytes}
-use Rattle.event_ring.specs.Ring.{ok_state, along, moved_to, fresh_of, reader_at, take, nothing_at, taken_at}
+use Rattle.event_ring.specs.Ring.{reader_at, take}
 use Rattle.event_ring.specs.declared.EventRing.{EventRing}
-use Rattle.event_ring.specs.declared.Moved.{Moved}
 use Rattle.event_ring.specs.declared.Taken.{Taken}
 use Rattle.event_ring.proofs.Along.{along_added, along_nothing, along_taken}
 use Rattle.words.specs.Events.{event_in, bytes_from, written}
 use Rattle.words.specs.declared.event.CTrb.{CTrb}
 use Rattle.words.proofs.Apart.{Accepted, accepted, event_whole}
-use Rattle.lomvigast_ffi.specs.Rings.{words_of, fields_of, state_of, plain, stepped, added_from, memory_from, ring_from, take_number, taken_from, put_taken}
+use Rattle.lomvigast_ffi.specs.Rings.{fields_of, state_of, plain, stepped, added_from, memory_from, ring_from, take_number, taken_from, put_taken}
 use Rattle.lomvigast_ffi.proofs.Slots.{fresh_yes, fresh_no}
 use Rattle.lomvigast_ffi.proofs.States.{numbers, fields, okay, not_last, step}
 

@@ -78,13 +78,7 @@ pub fn lomvigast_read_trb(start: u64, mem: &[u8], address: u64, out: &mut [u64; 
     0
 }
 
-pub fn lomvigast_write_trb(
-    start: u64,
-    mem: &mut [u8],
-    address: u64,
-    low: u64,
-    high: u64,
-) -> u8
+pub fn lomvigast_write_trb(start: u64, mem: &mut [u8], address: u64, low: u64, high: u64) -> u8
     ensures { (result ≡ write_number (window start mem.old) address) × (mem.new ≡ (write_memory (window start mem.old) address (whole_of low high)).bytes) }
 {
     guest::write_trb(start, mem, address, guest::whole(low, high))

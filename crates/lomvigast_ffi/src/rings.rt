@@ -219,12 +219,7 @@ fn take(start: u64, mem: &[u8], reader: &mut CEventRing, out: &mut [u64; 2]) -> 
 
 // Takes the event that stands in the reader's slot, if the slot is fresh: 0, with the event's halves in `out`; 255 where it is not. The
 // usual case, in which the reader goes on in its segment, is done here; all else by `take`.
-pub fn lomvigast_take(
-    start: u64,
-    mem: &[u8],
-    reader: &mut CEventRing,
-    out: &mut [u64; 2],
-) -> u8
+pub fn lomvigast_take(start: u64, mem: &[u8], reader: &mut CEventRing, out: &mut [u64; 2]) -> u8
     ensures { (result ≡ take_number (take (window start mem.now) (reader_at (state_of reader.old))).answer) × (reader.new ≡ taken_from (take (window start mem.now) (reader_at (state_of reader.old))) reader.old) × (out.new ≡ put_taken (take (window start mem.now) (reader_at (state_of reader.old))) out.old) }
 {
     let place = rounded(reader[PLACE]);

@@ -87,13 +87,7 @@ pub fn lomvigast_data_refusal(
 }
 
 // The place of the part, since a reference cannot be answered over C.
-pub fn lomvigast_data(
-    start: u64,
-    mem: &[u8],
-    pointer: u64,
-    length: u32,
-    immediate: bool,
-) -> CPart
+pub fn lomvigast_data(start: u64, mem: &[u8], pointer: u64, length: u32, immediate: bool) -> CPart
     ensures { result ≡ part_of (window start mem.now) (info_of pointer length immediate) }
 {
     let refusal = lomvigast_data_refusal(start, mem, pointer, length, immediate);
