@@ -1,20 +1,21 @@
 //! The whole check over a repository that has been read.
 
-use std::collections::{BTreeMap, BTreeSet, HashSet};
+use std::collections::HashSet;
 use std::fmt;
 
 use crate::fault::Fault;
-use crate::source::{print, source, Function, Source};
+use crate::heads::Heads;
+use crate::source::{source, Function, Source};
 use crate::tree::{Crate, Tree, CRATES};
-use crate::{edits, kit, pages, rules, symbols, theorems};
+use crate::{edits, pages, rules, symbols, theorems};
 
 /// What the check found.
 #[derive(Debug)]
 pub struct Report {
     pub functions: usize,
     pub loose: usize,
-    /// The crates that were read a second time, as the compiler printed them.
-    pub printed: usize,
+    /// The crates that were read a second time, as the compiler read them.
+    pub twice: usize,
     pub faults: Vec<Fault>,
 }
 
@@ -23,9 +24,12 @@ impl fmt::Display for Report {
         for fault in &self.faults {
             writeln!(f, "{fault}")?;
         }
-        if self.printed > 0 {
-            let crates = self.printed;
-            writeln!(f, "contracts: {crates} crates are read twice, as written and as the compiler printed them")?;
+        if self.twice > 0 {
+            let crates = self.twice;
+            writeln!(
+                f,
+                "contracts: {crates} crates are read twice, here and by the compiler"
+            )?;
         }
         writeln!(
             f,
@@ -37,9 +41,9 @@ impl fmt::Display for Report {
     }
 }
 
-/// Checks every rule, the last of them where the compiler's own list is at hand. The faults are in the order of their
+/// Checks every rule, the last of them where what the compiler read is at hand. The faults are in the order of their
 /// files and lines.
-pub fn check(tree: &Tree, compiled: Option<&BTreeSet<String>>) -> Report {
+pub fn check(tree: &Tree, heads: Option<&Heads>) -> Report {
     let (sources, mut faults) = sources(tree);
     let all: Vec<&Function> = sources
         .iter()
@@ -49,10 +53,8 @@ pub fn check(tree: &Tree, compiled: Option<&BTreeSet<String>>) -> Report {
     faults.extend(symbol_faults(tree, &sources));
     faults.extend(theorems::faults(tree));
     faults.extend(edits::faults(tree));
-    faults.extend(compiled.map_or(Vec::new(), |compiled| {
-        list_of_compiler(tree, &all, compiled)
-    }));
-    faults.extend(tree.crates.iter().flat_map(|one| print_faults(one, &all)));
+    faults.extend(tree.crates.iter().flat_map(|one| exports(tree, one, &all)));
+    faults.extend(heads.map_or(Vec::new(), |heads| heads.faults(&tree.crates, &all)));
     let loose = pages::loose(&tree.loose);
     let promises = pages::promises(&tree.promises);
     for source in &sources {
@@ -70,11 +72,7 @@ pub fn check(tree: &Tree, compiled: Option<&BTreeSet<String>>) -> Report {
     Report {
         functions: public.len(),
         loose: public.iter().filter(is_loose).count(),
-        printed: tree
-            .crates
-            .iter()
-            .filter(|one| !one.printed.is_empty())
-            .count(),
+        twice: heads.map_or(0, Heads::count),
         faults,
     }
 }
@@ -103,70 +101,29 @@ fn symbol_faults(tree: &Tree, sources: &[Source]) -> Vec<Fault> {
         .collect()
 }
 
-/// Functions whose head is not what the compiler printed when it proved the crate.
-fn print_faults(one: &Crate, all: &[&Function]) -> Vec<Fault> {
-    let (mut printed, mut faults) = (BTreeMap::new(), Vec::new());
-    for (file, module) in one.printed_modules() {
-        match print(&file.name, &module, &file.text) {
-            Ok(found) => printed.extend(found.functions.into_iter().map(|f| (f.path.clone(), f))),
-            Err(fault) => faults.push(fault),
-        }
-    }
-    if one.printed.is_empty() {
-        return faults;
-    }
-    let own = format!("{}::", one.name);
-    let what = format!(
-        "is not as the compiler printed it in target/rlib/{}.rlib",
-        one.name
-    );
-    for function in all.iter().filter(|one| one.path.starts_with(&own)) {
-        if printed.remove(&function.path).map(|one| one.head()) != Some(function.head()) {
-            faults.push(Fault::new(
-                &function.file,
-                function.line,
-                &function.path,
-                &*what,
-            ));
-        }
-    }
-    let hidden = printed
-        .into_values()
-        .map(|one| Fault::new(&one.file, one.line, &one.path, &*what));
-    faults.into_iter().chain(hidden).collect()
-}
-
-/// The functions of the libraries that this reader knows and the compiler does not, or the other way about.
-fn list_of_compiler(tree: &Tree, all: &[&Function], compiled: &BTreeSet<String>) -> Vec<Fault> {
-    let libraries: HashSet<&str> = kit::libraries(tree).map(|one| one.name.as_str()).collect();
-    let of_library = |path: &&str| {
-        path.split("::")
-            .next()
-            .is_some_and(|name| libraries.contains(name))
+/// Functions of a crate of exports, NAME_c, that are not the same as those of the crate NAME, which they call.
+fn exports(tree: &Tree, one: &Crate, all: &[&Function]) -> Vec<Fault> {
+    let library = one.name.strip_suffix("_c");
+    let library = library.filter(|name| tree.crates.iter().any(|other| other.name == *name));
+    let (Some(library), own) = (library, format!("{}::", one.name)) else {
+        return Vec::new();
     };
-    let mut counts: BTreeMap<String, (usize, usize)> = BTreeMap::new();
-    for path in all.iter().map(|one| one.path.as_str()).filter(of_library) {
-        counts.entry(by_type(path)).or_default().0 += 1;
-    }
-    for path in compiled {
-        counts.entry(by_type(path)).or_default().1 += 1;
-    }
-    let parted = counts.iter().filter(|(_, (read, known))| read != known);
-    let told = parted.map(|(path, (read, known))| {
-        let what = format!("stands {read} times in the sources as they are read here, and {known} times for the compiler");
-        Fault::new(CRATES, 1, path, what)
-    });
-    told.collect()
-}
-
-/// A method's path without the module: the compiler names the type's, and an `impl` may stand in another.
-fn by_type(path: &str) -> String {
-    match path.split("::").collect::<Vec<_>>()[..] {
-        [name, .., of, method] if of.starts_with(char::is_uppercase) => {
-            format!("{name}::{of}::{method}")
+    let mut found = Vec::new();
+    for function in all {
+        let Some(path) = function.path.strip_prefix(&own) else {
+            continue;
+        };
+        let path = format!("{library}::{path}");
+        let called = all.iter().find(|other| other.path == path);
+        if called.map(|other| other.head()) != Some(function.head()) {
+            let what = format!("has another head than {path}, for which it stands");
+            let Function {
+                file, line, path, ..
+            } = function;
+            found.push(Fault::new(file, *line, path, what));
         }
-        _ => path.to_string(),
     }
+    found
 }
 
 /// Faults of crates.txt: every crate that it lists is there, and every crate that is there is listed.
@@ -178,7 +135,8 @@ fn list_faults(tree: &Tree) -> Vec<Fault> {
         let Some((name, _)) = line.split_once(':') else {
             continue;
         };
-        let name = name.trim();
+        // `NAME staticlib` is a static library.
+        let name = name.split_whitespace().next().unwrap_or("");
         listed.insert(name);
         let has_source = |one: &Crate| one.has("src/lib.rt") || one.has("src/main.rt");
         if !tree.crates.iter().any(|c| c.name == name && has_source(c)) {
@@ -211,64 +169,71 @@ mod tests {
     /// Contracts of each form that is asked for.
     const GOOD: &str = r#"
 // The lowest that is set, or 32.
-ghost use mathlib.Core.Path.{_≡_};
-ghost use Prim.Native.Nat.{_+_, _<_};
-ghost use Rattle·demo·specs.specs.Demo.{first, bit, dataOf, startOf, code, put, advanced, ringAt, added, addedTo};
+#![tactic(auto)]
+
+ghost use Rattle.std.specs.Prelude.{◌≡◌, ◌+◌, ◌<◌};
+ghost use Rattle.demo.specs.Demo.{first, bit, data_of, start_of, code, put, advanced, ring_at, added, added_to};
 
 pub fn lowest(w: u32) -> u32
-    ensures { λ r. ⌜ (r ≡ first (bit w) 32) × (r < 33) ⌝ }
+    ensures { (result ≡ first (bit w) 32) × (result < 33) }
 {
     u32::trailing_zeros(w)
 }
 
 fn bit(c: bool) -> u8
-    requires { ⌜ c ≡ true ⌝ }
+    requires { c ≡ true }
 {
     if c { 1 } else { 0 }
 }
 
 // The part itself, empty on refusal.
 pub fn data(mem: &[u8], pointer: u64) -> &[u8]
-    ensures { λ r. ⌜ (now r ≡ dataOf (now (mem .entry)) pointer)
-        × (r .ptr ≡ (mem .entry .ptr .0, startOf (now (mem .entry)) pointer + mem .entry .ptr .1)) ⌝ }
+    ensures { (result.now ≡ data_of mem.now pointer)
+        × (result.ref_ptr ≡ (mem.entry.ref_ptr.0, start_of mem.now pointer + mem.entry.ref_ptr.1)) }
 {
     &mem[0..0]
 }
 
 /* Writes the 16 bytes at `at`, and answers 0; or changes nothing, and answers 1. */
 pub fn write(mem: &mut [u8], at: u64, b: [u8; 16]) -> u8
-    ensures { λ r. ⌜ r ≡ code (now (mem .entry)) at ⌝ }
-    ensures { λ _. ⌜ now (mem .exit) ≡ put (now (mem .entry)) at b ⌝ }
+    ensures answer { result ≡ code mem.old at }
+    ensures memory { mem.new ≡ put mem.old at b }
 {
     word(b"}{");
     1
+}
+
+#[derive(Clone, Copy)]
+pub struct LinkedRing {
+    pub place: u64,
 }
 
 impl LinkedRing {
     pub const TRB_SIZE: u64 = 16;
 
     pub fn new(place: u64, cycle_bit: bool) -> Self
-        ensures { λ r. ⌜ r ≡ ringAt place «cycle_bit» ⌝ }
+        ensures { result ≡ ring_at place «cycle_bit» }
     {
         Self { place, cycle }
     }
 
+    #[tactic(auto, using(advanced_by))]
     pub fn advance(&mut self)
-        ensures { λ _. ⌜ now (self .exit) ≡ advanced (now (self .entry)) ⌝ }
+        ensures { self.new ≡ advanced self.old }
     {
         *self = self.advanced();
     }
 
     pub fn add(self, mem: &mut [u8], trb: [u8; 16], report: u64) -> Moved
-        ensures { λ r. ⌜ (r ≡ added (now (mem .entry)) self report) × (now (mem .exit) ≡ addedTo (now (mem .entry)) self trb report) ⌝ }
+        ensures { (result ≡ added mem.old self report) × (mem.new ≡ added_to mem.old self trb report) }
     {
         self.moved(step)
     }
 }
 
-#[no_mangle]
+#[unsafe(no_mangle)]
 pub extern "C" fn exported(x: u8) -> u8
-    ensures { λ answer. ⌜ answer ≡ x ⌝ }
+    ensures { result ≡ x }
 {
     x
 }
@@ -283,65 +248,100 @@ pub extern "C" fn exported(x: u8) -> u8
             check(&tree, None).to_string(),
             "contracts: 7 public functions, 0 loose, 0 faults\n"
         );
-        let compiled = [
-            "bit",
-            "lowest",
-            "data",
-            "write",
-            "exported",
-            "ring::LinkedRing::new",
-            "LinkedRing::advance",
-        ];
-        let compiled: BTreeSet<String> = compiled.map(|name| format!("demo::{name}")).into();
-        let told: Vec<String> = check(&tree, Some(&compiled))
-            .faults
-            .iter()
-            .map(Fault::to_string)
-            .collect();
-        one_fault(&told, "demo::LinkedRing::add: stands 1 times in the sources as they are read here, and 0 times");
+    }
+
+    /// The faults of a crate with this source, of which the compiler read the heads.
+    fn beside(source: &str, heads: &str) -> Vec<String> {
+        let mut tree = demo(source, "", "");
+        let named = ["f", "g", "R::f"].map(|name| format!("`demo::{name}`"));
+        tree.promises = format!("{}\n{}", named.join(" "), crate::demo::TABLE);
+        let heads = crate::heads::heads(heads).expect("what the compiler read");
+        let report = check(&tree, Some(&heads));
+        report.faults.iter().map(Fault::to_string).collect()
     }
 
     #[test]
     fn what_the_compiler_printed_is_what_is_read() {
-        let mut tree = demo(GOOD, "", "");
-        tree.crates[0].printed = vec![File {
-            name: "crates/demo/src/lib.rt".to_string(),
-            text: "pub fn f ( x : u8 ) -> u8\n    ensures { λ r. ⌜ r ≡ x ⌝ } ;\n".to_string(),
-        }];
-        tree.promises = format!("`demo::f`{}", crate::demo::TABLE);
+        let heads = "== crates/demo/src/lib.rt\n# [ read_as = \"0f\" ] pub const A : u8 = 1 ;
+pub fn f ( x : u8 ) -> u8\n    ensures { result ≡ x } ;\n";
         for (source, told) in [
+            ("pub fn f(x: u8) -> u8 ensures {\n result ≡ x } { x }", 0),
+            ("pub fn f(x: u8) -> u8 ensures { result ≡ 1 } { x }", 1),
             (
-                "pub fn f(x: u8) -> u8 ensures { λ r.\n ⌜ r ≡ x ⌝ } { x }",
-                0,
-            ),
-            ("pub fn f(x: u8) -> u8 ensures { λ r. ⌜ r ≡ 1 ⌝ } { x }", 1),
-            (
-                "pub fn f(x: u8) -> u8 requires { ⌜ x < 1 ⌝ } ensures { λ r. ⌜ r ≡ x ⌝ } { x }",
+                "pub fn f(x: u8) -> u8 requires { x < 1 } ensures { result ≡ x } { x }",
                 2,
             ),
+            ("pub fn f(x: &u8) -> u8 ensures { result ≡ x.now } { x }", 1),
             (
-                "pub fn f(x: &u8) -> u8 ensures { λ r. ⌜ r ≡ now (x .entry) ⌝ } { x }",
-                1,
-            ),
-            (
-                "pub fn f(x: u8) -> u8 ensures { λ r. ⌜ r ≡ x ⌝ } { x } fn g() {}",
+                "pub fn f(x: u8) -> u8 ensures { result ≡ x } { x } fn g() {}",
                 1,
             ),
             ("", 1),
         ] {
-            tree.crates[0].files[0].text = source.to_string();
-            let found = lines(&tree);
+            let found = beside(source, heads);
             assert_eq!(found.len(), told, "{source}\n{found:#?}");
         }
-        assert!(check(&tree, None)
-            .to_string()
-            .contains("1 crates are read twice"));
+        let hidden = "impl R { pub fn f(x: u8) -> u8 ensures { result ≡ x } { x } }";
+        let heads = "== crates/demo/src/lib.rt\nimpl R { pub fn f ( x : u8 ) -> u8 ensures { result ≡ x } ; }";
+        assert_eq!(beside(hidden, heads), [""; 0]);
+        one_fault(
+            &beside("", heads),
+            "demo::R::f: is not as the compiler read it",
+        );
+    }
+
+    #[test]
+    fn what_the_compiler_proved_is_what_is_read() {
+        let source = "pub fn f(x: u8) -> u8 ensures { result ≡ x } { x }";
+        let proved = "== crates/demo\nfn demo::f\n";
+        assert_eq!(beside(source, proved), [""; 0]);
+        let hidden = "crates.txt:1: demo::g: was proved by the compiler, and is not read here";
+        one_fault(&beside(source, &format!("{proved}fn demo::g\n")), hidden);
+        let what = "demo::f: is not among what the compiler proved";
+        one_fault(&beside(source, "== crates/demo\n"), what);
+        // A crate that the compiler did not read has no function.
+        let what = "demo::f: is not among what the compiler read";
+        one_fault(&beside(source, ""), what);
+        assert_eq!(beside("", ""), [""; 0]);
+        let what = "crates.txt:1: gone: was read by the compiler, and is no crate";
+        one_fault(&beside("", "== crates/gone\n"), what);
+        let heads = crate::heads::heads(proved).expect("what the compiler read");
+        let report = check(&demo(source, "", "`demo::f`"), Some(&heads)).to_string();
+        let first = "contracts: 1 crates are read twice, here and by the compiler\n";
+        assert!(report.starts_with(first), "{report}");
+    }
+
+    #[test]
+    fn an_export_has_the_contract_of_its_function() {
+        let good = "pub fn f(x: u8) -> u8 ensures { result ≡ x } { x }";
+        for (export, told) in [
+            (
+                "#[unsafe(no_mangle)] pub extern \"C\" fn f(x: u8) -> u8 ensures { result ≡ x } { x }",
+                0,
+            ),
+            ("pub fn f(x: u8) -> u8 ensures { result ≡ 1 } { x }", 1),
+            ("pub fn f(y: u8) -> u8 ensures { result ≡ y } { y }", 1),
+            ("pub fn g(x: u8) -> u8 ensures { result ≡ x } { x }", 1),
+        ] {
+            let mut tree = demo(good, "", "`demo::f` `demo_c::f` `demo_c::g`");
+            tree.listed.push_str("demo_c staticlib: demo\n");
+            tree.crates.push(Crate {
+                name: "demo_c".to_string(),
+                files: vec![File {
+                    name: "crates/demo_c/src/lib.rt".to_string(),
+                    text: export.to_string(),
+                }],
+            });
+            let found = lines(&tree);
+            assert_eq!(found.len(), told, "{export}\n{found:#?}");
+            let what = "has another head than demo::";
+            assert!(found.iter().all(|line| line.contains(what)), "{found:#?}");
+        }
     }
 
     #[test]
     fn a_requires_is_a_fault() {
-        let source =
-            "pub fn f(x: u8) -> u8 requires { ⌜ x < 9 ⌝ } ensures { λ r. ⌜ r ≡ x ⌝ } { x }";
+        let source = "pub fn f(x: u8) -> u8 requires { x < 9 } ensures { result ≡ x } { x }";
         one_fault(&faults(source, ""), "demo::f: has a `requires`");
         one_fault(
             &faults(source, "- `demo::f`: it is loose."),
@@ -363,24 +363,24 @@ pub extern "C" fn exported(x: u8) -> u8
 
     #[test]
     fn a_result_without_equation_is_a_fault() {
-        for clauses in ["", "// ensures { λ r. ⌜ r ≡ x ⌝ }\n"] {
+        for clauses in ["", "// ensures { result ≡ x }\n"] {
             let found = faults(&format!("pub fn f(x: u8) -> u8 {clauses} {{ x }}"), "");
             one_fault(&found, NO_RESULT);
         }
-        let part = "pub fn f(x: &[u8]) -> &[u8] ensures { λ r. ⌜ now r ≡ now (x .entry) ⌝ } { x }";
+        let part = "pub fn f(x: &[u8]) -> &[u8] ensures { result.now ≡ x.now } { x }";
         one_fault(
             &faults(part, ""),
-            "demo::f: no equation of its result's place: `r .ptr ≡ ..`",
+            "demo::f: no equation of its result's place: `result.ref_ptr ≡ ..`",
         );
     }
 
     #[test]
     fn a_lent_parameter_without_equation_is_a_fault() {
-        let missing = "demo::f: no equation of `mem` at exit: `now (mem .exit) ≡ ..`";
+        let missing = "demo::f: no equation of `mem` at exit: `mem.new ≡ ..`";
         for head in [
             "pub fn f(mem: &mut [u8])",
-            "pub fn f<'a>(mem: &'a mut [u8]) -> u8 ensures { λ r. ⌜ r ≡ 1 ⌝ }",
-            "pub fn f(mem: &mut [u8], n: &mut u8) ensures { λ _. ⌜ now (n .exit) ≡ 1 ⌝ }",
+            "pub fn f<'a>(mem: &'a mut [u8]) -> u8 ensures { result ≡ 1 }",
+            "pub fn f(mem: &mut [u8], n: &mut u8) ensures { n.new ≡ 1 }",
         ] {
             one_fault(&faults(&format!("{head} {{}}"), ""), missing);
         }
@@ -388,7 +388,7 @@ pub extern "C" fn exported(x: u8) -> u8
 
     #[test]
     fn a_reason_lets_a_loose_contract_through() {
-        let loose = "pub fn f(x: u8) -> u8 ensures { λ r. ⌜ r ≤ x ⌝ } { x }";
+        let loose = "pub fn f(x: u8) -> u8 ensures { result ≤ x } { x }";
         let tree = demo(
             loose,
             "- `demo::f`: any smaller number will do.",
@@ -408,7 +408,7 @@ pub extern "C" fn exported(x: u8) -> u8
 
     #[test]
     fn the_pages_name_what_is_there() {
-        let good = "pub fn f(x: u8) -> u8 ensures { λ r. ⌜ r ≡ x ⌝ } { x }";
+        let good = "pub fn f(x: u8) -> u8 ensures { result ≡ x } { x }";
         one_fault(
             &lines(&demo(good, "", "demo::f, `f`")),
             "crates/demo/src/lib.rt:1: demo::f: is not named in docs/PROMISES.md",
@@ -432,11 +432,11 @@ pub extern "C" fn exported(x: u8) -> u8
         let mut tree = demo("", "", "");
         tree.crates[0].files.push(File {
             name: "crates/demo/specs/Eq.antt".to_string(),
-            text: "-- all is one\nabbrev pub _≡_ : ℕ → ℕ → Type 0\na ≡ b = Unit\n".to_string(),
+            text: "-- all is one\nabbrev pub ◌≡◌ : ℕ → ℕ → Type 0\na ≡ b = Unit\n".to_string(),
         });
         one_fault(
             &lines(&tree),
-            "crates/demo/specs/Eq.antt:2: _≡_: is defined here",
+            "crates/demo/specs/Eq.antt:2: ◌≡◌: is defined here",
         );
     }
 

@@ -1,15 +1,14 @@
 //! Reads an `ensures` clause of a public function: which things it gives by an equation. A clause is known in one form,
 //!
 //! ```text
-//! λ r. ⌜ FACT ⌝                      r, or `_` where nothing is returned, is no parameter and nothing brought in
-//! FACT     = EQUATION  or  (EQUATION) × (EQUATION or BOUND) × ..
-//! EQUATION = SUBJECT ≡ TERM          BOUND = r < TERM
-//! SUBJECT  = r                       the result, passed by value
-//!          = now r, r .ptr           a reference's: what stands there, and where
-//!          = now (p .exit)           what a parameter lends, at the end
-//! TERM     = numbers, names that a `ghost use` of the file brings in, parameters passed by value, `now (p .entry)` and
-//!            `p .entry .ptr` of the others, fields after a dot, parentheses, a comma, and the operators of `SIGNS`;
-//!            all but these in ASCII
+//! CLAUSE   = EQUATION  or  (EQUATION) × (EQUATION or BOUND) × ..
+//! EQUATION = SUBJECT ≡ TERM          BOUND = result < TERM
+//! SUBJECT  = result                  passed by value
+//!          = result.now, result.ref_ptr   a reference's: what stands there, and where
+//!          = p.new                   what a parameter lends, at the end
+//! TERM     = numbers, names that a `ghost use` of the file brings in, parameters passed by value, of the others `p.old` where it
+//!            lends something to be changed, `p.now` where to be read, and `p.entry.ref_ptr`; fields after a dot, parentheses, a
+//!            comma, and the operators of `SIGNS`; all but these in ASCII
 //! ```
 //!
 //! and what is not of this form is a fault. A term says nothing of the result or of any value at exit, binds no name and
@@ -17,7 +16,7 @@
 
 use std::collections::HashSet;
 
-use crate::lex::{antt, bare};
+use crate::lex::{antt, bare, Word};
 use crate::source::{Function, Parameter, Passed};
 
 /// What an equation is of.
@@ -32,15 +31,20 @@ pub enum Subject {
     Lent(String),
 }
 
+/// What a clause calls the value that the function returns.
+const RESULT: &str = "result";
+
+const AT_EXIT: &str = "has a value at exit in its right side";
+
 /// The operators of a term, as a `ghost use` names them.
 const SIGNS: [(&str, &str); 7] = [
-    ("+", "_+_"),
-    ("-", "_-_"),
-    ("*", "_*_"),
-    ("/", "_/_"),
-    ("%", "_%_"),
-    ("^", "_^_"),
-    ("∷", "_∷_"),
+    ("+", "◌+◌"),
+    ("-", "◌-◌"),
+    ("*", "◌*◌"),
+    ("/", "◌/◌"),
+    ("%", "◌%◌"),
+    ("^", "◌^◌"),
+    ("∷", "◌∷◌"),
 ];
 
 /// What the clause of a function equates, or why it is not known.
@@ -50,25 +54,29 @@ pub fn equated(
     imports: &HashSet<String>,
 ) -> Result<Vec<Subject>, String> {
     let words = words(clause)?;
-    let ["λ", result, ".", "⌜", fact @ .., "⌝"] = &words[..] else {
-        return Err("is not of the form `λ r. ⌜ .. ⌝`".to_string());
-    };
     let scope = Scope {
-        result,
         parameters: &function.parameters,
         imports,
     };
     scope.check_names()?;
-    let facts = factors(fact)?;
+    let facts = factors(&words)?;
     let stated = facts.into_iter().map(|fact| scope.fact(fact));
     let stated = stated.collect::<Result<Vec<_>, _>>()?;
     Ok(stated.into_iter().flatten().collect())
 }
 
-/// The words of a clause, an escaped name without its marks: such a name is one that antt would read as an operator.
+/// The words of a clause, an escaped name without its marks: such a name is one that antt would read as an operator. A dot stands
+/// right between its two words; with a space it would be another thing's field.
 fn words(clause: &str) -> Result<Vec<&str>, String> {
+    let all = antt(clause);
+    let place = |word: &Word| word.text.as_ptr() as usize;
+    let touch = |pair: &[Word]| place(&pair[0]) + pair[0].text.len() == place(&pair[1]);
+    let apart = |pair: &&[Word]| pair.iter().any(|word| word.text == ".") && !touch(pair);
+    if let Some(pair) = all.windows(2).find(apart) {
+        return Err(format!("has `{} {}`", pair[0].text, pair[1].text));
+    }
     let mut found = Vec::new();
-    for word in antt(clause) {
+    for word in all {
         let name = bare(word.text);
         if name != word.text
             && !(name.contains('_') && name.chars().all(|c| c.is_ascii_alphanumeric() || c == '_'))
@@ -120,7 +128,6 @@ fn nesting(word: &str) -> i32 {
 
 /// The names that a clause may use.
 struct Scope<'a> {
-    result: &'a str,
     parameters: &'a [Parameter],
     imports: &'a HashSet<String>,
 }
@@ -130,24 +137,13 @@ impl Scope<'_> {
         self.parameters.iter().find(|p| p.name == name)
     }
 
-    /// The result's name is no other thing's, and `now` is the library's. A parameter may hide a name that is brought
-    /// in: a term that says the name then speaks of the parameter.
+    /// The result's name is no other thing's. A parameter may hide a name that is brought in: a term that says the name then
+    /// speaks of the parameter.
     fn check_names(&self) -> Result<(), String> {
-        let result = self.result;
-        if !plain(result) {
-            return Err(format!("gives the result the name `{result}`"));
+        if self.parameter(RESULT).is_some() || self.imports.contains(RESULT) {
+            return Err(format!("speaks of `{RESULT}`, which is another thing's"));
         }
-        if self.parameter(result).is_some() || self.imports.contains(result) || result == "now" {
-            return Err(format!(
-                "gives the result the name `{result}`, which is another thing's"
-            ));
-        }
-        match self.parameter("now") {
-            Some(_) => {
-                Err("speaks of a parameter `now`, which is another thing's name".to_string())
-            }
-            None => Ok(()),
-        }
+        Ok(())
     }
 
     /// What a fact is an equation of: nothing if it is a bound.
@@ -169,7 +165,7 @@ impl Scope<'_> {
     }
 
     fn is_result(&self, name: &str) -> Result<(), String> {
-        if name == self.result && name != "_" {
+        if name == RESULT {
             return Ok(());
         }
         Err(format!("speaks of `{name}`, which is not the result"))
@@ -177,15 +173,15 @@ impl Scope<'_> {
 
     fn subject(&self, words: &[&str]) -> Result<Subject, String> {
         match words {
-            ["now", "(", name, ".", "exit", ")"] => match self.parameter(name) {
+            [name, ".", "new"] => match self.parameter(name) {
                 Some(p) if p.passed == Passed::Lent => Ok(Subject::Lent(p.name.clone())),
                 _ => Err(format!(
                     "has an equation of `{name}`, which lends nothing to be changed"
                 )),
             },
             [name] => self.is_result(name).map(|()| Subject::Result),
-            ["now", name] => self.is_result(name).map(|()| Subject::ResultNow),
-            [name, ".", "ptr"] => self.is_result(name).map(|()| Subject::ResultPlace),
+            [name, ".", "now"] => self.is_result(name).map(|()| Subject::ResultNow),
+            [name, ".", "ref_ptr"] => self.is_result(name).map(|()| Subject::ResultPlace),
             _ => Err(format!("has an equation of `{}`", words.join(" "))),
         }
     }
@@ -212,14 +208,18 @@ impl Scope<'_> {
 
     /// Passes one part of a term.
     fn part<'a>(&self, words: &'a [&'a str]) -> Result<&'a [&'a str], String> {
-        let lent = |name: &str| {
-            self.parameter(name)
-                .is_some_and(|p| p.passed != Passed::Value)
-        };
+        let is = |name: &str, passed| self.parameter(name).is_some_and(|p| p.passed == passed);
+        let lent = |name: &str| is(name, Passed::Lent) || is(name, Passed::Shared);
         match words {
-            ["now", "(", name, ".", "entry", ")", rest @ ..] if lent(name) => Ok(rest),
-            [name, ".", "entry", ".", "ptr", rest @ ..] if lent(name) => Ok(rest),
-            [".", "exit", ..] => Err("has a value at exit in its right side".to_string()),
+            [name, ".", "old", rest @ ..] if is(name, Passed::Lent) => Ok(rest),
+            [name, ".", "now", rest @ ..] if is(name, Passed::Shared) => Ok(rest),
+            [name, ".", "entry", ".", "ref_ptr", rest @ ..] if lent(name) => Ok(rest),
+            [".", "new" | "exit", ..] => Err(AT_EXIT.to_string()),
+            [name, ".", "new" | "exit", ..] if lent(name) => Err(AT_EXIT.to_string()),
+            [".", field @ ("old" | "now" | "entry"), ..] => Err(format!("has `.{field}`")),
+            [name, ".", field @ ("old" | "now" | "entry"), ..] if lent(name) => {
+                Err(format!("has `{name}.{field}`"))
+            }
             [".", field, rest @ ..] if plain(field) => Ok(rest),
             ["(" | ")" | ",", rest @ ..] => Ok(rest),
             [word, rest @ ..] => self.known(word).map(|()| rest),
@@ -228,14 +228,14 @@ impl Scope<'_> {
     }
 
     fn known(&self, word: &str) -> Result<(), String> {
-        if word == self.result {
+        if word == RESULT {
             return Err(format!("has `{word}`, its own subject, in its right side"));
         }
         if let Some(p) = self.parameter(word) {
             return match p.passed {
                 Passed::Value => Ok(()),
                 _ => Err(format!(
-                    "has `{word}` whole: it is `now ({word} .entry)` that is known before the call"
+                    "has `{word}` whole: a part of it is known before the call"
                 )),
             };
         }
@@ -286,18 +286,18 @@ mod tests {
             requires: false,
             ensures: Vec::new(),
         };
-        let imports = ["f", "g", "[]", "max_len", "_+_", "_∷_"];
+        let imports = ["f", "g", "[]", "max_len", "◌+◌", "◌∷◌"];
         equated(clause, &function, &imports.map(str::to_string).into())
     }
 
     #[test]
     fn equations_of_the_result_count() {
         for clause in [
-            "λ r. ⌜ r ≡ f n 32 ⌝",
-            "λ r. ⌜ r ≡ f (now (mem .entry)) (n .place) + 0x1_0 ⌝",
-            "λ r. ⌜ (r ≡ n) × (r < 2) ⌝",
-            "λ answer. ⌜ answer ≡ n ∷ g n .refusal ∷ [] ⌝",
-            "λ r. ⌜ r ≡ f «max_len» ⌝",
+            "result ≡ f n 32",
+            "result ≡ f mem.old n.place + 0x1_0",
+            "(result ≡ n) × (result < 2)",
+            "result ≡ n ∷ (g n).refusal ∷ []",
+            "result ≡ f «max_len»",
         ] {
             assert_eq!(of(clause), Ok(vec![Subject::Result]), "{clause}");
         }
@@ -306,33 +306,52 @@ mod tests {
     #[test]
     fn equations_at_exit_and_of_references_count() {
         let lent = Subject::Lent("mem".to_string());
-        let put = "λ _. ⌜ now (mem .exit) ≡ f (now (mem .entry)) (now (s .entry)) n ⌝";
+        let put = "mem.new ≡ f mem.old s.now n";
         assert_eq!(of(put), Ok(vec![lent.clone()]));
-        let both = "λ r. ⌜ (r ≡ f n)\n × (now (mem .exit) ≡ g n) ⌝";
+        let both = "(result ≡ f n)\n × (mem.new ≡ g n)";
         assert_eq!(of(both), Ok(vec![Subject::Result, lent]));
-        let part = "λ r. ⌜ (now r ≡ f n) × (r .ptr ≡ (s .entry .ptr .0, f n + s .entry .ptr .1)) ⌝";
+        let part =
+            "(result.now ≡ f n) × (result.ref_ptr ≡ (s.entry.ref_ptr.0, f n + s.entry.ref_ptr.1))";
         assert_eq!(of(part), Ok(vec![Subject::ResultNow, Subject::ResultPlace]));
     }
 
     #[test]
     fn weaker_facts_are_not_known() {
         for clause in [
-            "λ r. ⌜ r < 1 ⌝ ∗ ⌜ r ≡ n ⌝",
-            "λ r. ⌜ r ≤ 1 ⌝",
-            "λ r. ⌜ r .len ≡ 1 ⌝",
-            "λ r. ⌜ f r ≡ 1 ⌝",
-            "λ r. ⌜ 1 ≡ r ⌝",
-            "λ r. ⌜ (n ≤ 2 → r ≡ n) ⌝",
-            "λ r. ⌜ r ≡ n → n ≤ 2 ⌝",
-            "λ r. ⌜ (r ≡ 1) ⊎ (r ≡ 2) ⌝",
-            "λ r. ⌜ ¬ (r ≡ 1) ⌝",
-            "λ r. ⌜ f (r ≡ 1) ⌝",
-            "λ r. ⌜ r ≡ 1 × r ≡ n ⌝",
-            "λ r. ⌜ (k : ℕ) × (r ≡ k) ⌝",
-            "λ r. ⌜ (r ≡ 1) × (f n → g n) ⌝",
-            "λ r. ⌜ r ≡ ⌝",
-            "λ r. ⌜ (r ≡ n) ⌝",
-            "λ s. ⌜ s ≡ n ⌝",
+            "",
+            "⌜ result < 1 ⌝ ∗ ⌜ result ≡ n ⌝",
+            "λ r. ⌜ r ≡ n ⌝",
+            "result ≤ 1",
+            "result.len ≡ 1",
+            "f result ≡ 1",
+            "1 ≡ result",
+            "(n ≤ 2 → result ≡ n)",
+            "result ≡ n → n ≤ 2",
+            "(result ≡ 1) ⊎ (result ≡ 2)",
+            "¬ (result ≡ 1)",
+            "f (result ≡ 1)",
+            "result ≡ 1 × result ≡ n",
+            "(k : ℕ) × (result ≡ k)",
+            "(result ≡ 1) × (f n → g n)",
+            "let k = n in result ≡ k",
+            "result ≡",
+            "(result ≡ n)",
+            "s ≡ n",
+            "s.new ≡ n",
+            "mem.now ≡ n",
+            "n.new ≡ n",
+            "result ≡ f mem.now",
+            "result ≡ f n.now",
+            "result ≡ f n.new",
+            "result ≡ f s.old",
+            "result ≡ f s.new",
+            "result ≡ f mem.new",
+            "result ≡ f mem.exit.now",
+            "result ≡ f mem.entry",
+            "result ≡ f mem",
+            "result ≡ f mem .old",
+            "result ≡ f mem. old",
+            "result .now ≡ n",
         ] {
             assert!(of(clause).is_err(), "{clause}");
         }

@@ -151,7 +151,7 @@ fn defines(last: &Declaration, words: &[Word]) -> bool {
     let part = |word: &&str| !word.is_empty() && left.contains(word);
     let begins = left.first().is_some_and(|first| bare(first) == last.name);
     left.len() < words.len()
-        && (begins || last.name.contains('_') && last.name.split('_').any(|word| part(&word)))
+        && (begins || last.name.contains('◌') && last.name.split('◌').any(|word| part(&word)))
 }
 
 fn joined(lines: &[Line]) -> String {
@@ -199,8 +199,8 @@ mod tests {
     use super::*;
 
     const TEXT: &str = "-- a file
-use Prim.Native.Nat.{ℕ, _<_ as _≺_}
-use Rattle·a.specs.B as b
+use Rattle.std.specs.Prelude.{ℕ, ◌<◌ as ◌≺◌}
+use Rattle.a.specs.B as b
 pub mod Other
 
 abbrev pub near : ℕ → ℕ
@@ -267,9 +267,9 @@ last = ℕ
             .map(|u| (u.name.as_str(), u.module.as_str(), u.from.as_str()))
             .collect();
         let expected = [
-            ("ℕ", "Prim.Native.Nat", "ℕ"),
-            ("_≺_", "Prim.Native.Nat", "_<_"),
-            ("b", "Rattle·a.specs.B", ""),
+            ("ℕ", "Rattle.std.specs.Prelude", "ℕ"),
+            ("◌≺◌", "Rattle.std.specs.Prelude", "◌<◌"),
+            ("b", "Rattle.a.specs.B", ""),
         ];
         assert_eq!(found, expected);
     }

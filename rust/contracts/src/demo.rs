@@ -13,7 +13,7 @@ pub const TABLE: &str = "
 | All is well: `law` | crates/demo/proofs/Laws.antt | |
 ";
 
-pub const LAWS: &str = "use mathlib.Core.Path.{_≡_}
+pub const LAWS: &str = "use Rattle.std.specs.Prelude.{◌≡◌}
 
 pub law : (n : ℕ) → n ≡ n
 law n = refl
@@ -30,7 +30,6 @@ pub fn demo(source: &str, loose: &str, promises: &str) -> Tree {
         crates: vec![Crate {
             name: "demo".to_string(),
             files: vec![file("src/lib.rt", source), file("proofs/Laws.antt", LAWS)],
-            printed: Vec::new(),
         }],
         edits: Vec::new(),
         loose: loose.to_string(),

@@ -54,7 +54,7 @@ impl<'a> Lexer<'a> {
         &self.text[self.at..]
     }
 
-    /// The next word of Rattle: a name, a number, a byte literal or string, a lifetime, `"C"`, `->`, `::`, or a sign.
+    /// The next word of Rattle: a name, a number, a string, a byte literal or byte string, a lifetime, `->`, `::`, or a sign.
     pub fn rattle(&mut self) -> Read<Option<Word<'a>>> {
         self.skip_comments()?;
         let rest = self.rest();
@@ -63,10 +63,13 @@ impl<'a> Lexer<'a> {
         };
         let len = match first {
             _ if named(first) => self.name()?,
-            '"' if rest.starts_with("\"C\"") => 3,
+            '"' => match quoted(rest, '"') {
+                Some(len) => len,
+                None => return self.trouble("has a literal that never ends"),
+            },
             '\'' => self.lifetime()?,
             _ if rest.starts_with("->") || rest.starts_with("::") => 2,
-            _ if first.is_ascii_punctuation() && first != '"' => 1,
+            _ if first.is_ascii_punctuation() => 1,
             _ => {
                 return self.trouble(format!(
                     "has `{first}`, which is no word of Rattle that is known here"
@@ -74,6 +77,12 @@ impl<'a> Lexer<'a> {
             }
         };
         Ok(Some(self.take(len)))
+    }
+
+    /// Whether the text goes on with this, after comments.
+    pub fn begins(&mut self, text: &str) -> Read<bool> {
+        self.skip_comments()?;
+        Ok(self.rest().starts_with(text))
     }
 
     fn take(&mut self, len: usize) -> Word<'a> {
@@ -119,7 +128,7 @@ impl<'a> Lexer<'a> {
         }
     }
 
-    /// The length of the lifetime here. A literal of one character has a second `'`, and Rattle has none.
+    /// The length of the lifetime here. A literal of one character has a second `'`, and is not known here.
     fn lifetime(&self) -> Read<usize> {
         let rest = &self.rest()[1..];
         let len = rest.find(|c| !named(c)).unwrap_or(rest.len());
@@ -319,7 +328,8 @@ mod tests {
 
     #[test]
     fn rattle_has_names_literals_lifetimes_and_signs() {
-        let text = "a // { \"\nio(b\"}\\\"}\", b'\"', b'\\'', b'{') + 'b -> x::y \"C\" 0x1_f";
+        let text =
+            "a // { \"\nio(b\"}\\\"}\", b'\"', b'\\'', b'{') + 'b -> x::y \"C\" \"}//\\\\\" 0x1_f";
         let expected = [
             "a",
             "io",
@@ -339,6 +349,7 @@ mod tests {
             "::",
             "y",
             "\"C\"",
+            "\"}//\\\\\"",
             "0x1_f",
         ];
         assert_eq!(texts(text).as_deref(), Ok(&expected[..]));
@@ -357,7 +368,8 @@ mod tests {
     fn what_is_not_known_is_trouble() {
         for text in [
             "/* a /* b */",
-            "\"text\"",
+            "\"text",
+            "f\"text\"",
             "'a'",
             "br\"a\"",
             "br#\"a\"#",
@@ -406,9 +418,20 @@ mod tests {
 
     #[test]
     fn antt_words_are_runs_of_other_characters() {
-        let text = "now (mem .exit) ≡ «le_8» x+y -- gone\n {- gone {- too -} -} [] a--b ⌜r⌝";
+        let text = "f (mem.new) ≡ «le_8» x+y -- gone\n {- gone {- too -} -} [] a--b ◌≡◌";
         let expected = [
-            "now", "(", "mem", ".", "exit", ")", "≡", "«le_8»", "x+y", "[]", "a--b", "⌜r⌝",
+            "f",
+            "(",
+            "mem",
+            ".",
+            "new",
+            ")",
+            "≡",
+            "«le_8»",
+            "x+y",
+            "[]",
+            "a--b",
+            "◌≡◌",
         ];
         assert_eq!(antts(text), expected);
         assert_eq!((bare("«le_8»"), bare("x")), ("le_8", "x"));

@@ -11,9 +11,9 @@
 //! 5. The symbols of contracts mean what the library says.
 //! 6. The theorems that docs/PROMISES.md names are declared, and docs/THEOREMS.md has their statements.
 //! 7. docs/PROMISES.md names every must-fail edit, and none that is not there.
-//! 8. Of a crate that is proved in target/rlib, and not changed since, the heads of all functions are those that the
-//!    compiler printed there, without comments and bodies.
-//! 9. With `contracts ROOT KIT`: the compiler of the Rattle kit in the folder KIT knows the same functions.
+//! 8. The functions of a crate NAME_c beside a crate NAME, which are its exports, have the heads of NAME's.
+//! 9. With `contracts ROOT HEADS`, the file of that name that rust/lomvigast/archives leaves beside archives of these sources: the heads
+//!    of all functions of a library are those that the compiler read, and a static library has those functions that it proved.
 //!
 //! `contracts --theorems ROOT` prints docs/THEOREMS.md as the files have it.
 
@@ -24,7 +24,7 @@ mod declared;
 mod demo;
 mod edits;
 mod fault;
-mod kit;
+mod heads;
 mod lex;
 mod pages;
 mod rules;
@@ -36,18 +36,19 @@ mod tree;
 mod tricks;
 
 use std::env;
+use std::fs;
 use std::path::Path;
 use std::process::ExitCode;
 
 const MISUSE: u8 = 2;
-const USAGE: &str = "name the root of the repository, as in: contracts ROOT, contracts ROOT KIT or contracts --theorems ROOT";
+const USAGE: &str = "name the root of the repository, as in: contracts ROOT, contracts ROOT HEADS or contracts --theorems ROOT";
 
 fn main() -> ExitCode {
     let words: Vec<_> = env::args_os().skip(1).collect();
     let done = match &words[..] {
         [option, root] if option == "--theorems" => written(Path::new(root)),
         [root] => checked(Path::new(root), None),
-        [root, kit] => checked(Path::new(root), Some(Path::new(kit))),
+        [root, heads] => checked(Path::new(root), Some(Path::new(heads))),
         _ => Err(USAGE.to_string()),
     };
     done.unwrap_or_else(|what| {
@@ -56,14 +57,19 @@ fn main() -> ExitCode {
     })
 }
 
-fn checked(root: &Path, kit: Option<&Path>) -> Result<ExitCode, String> {
+fn checked(root: &Path, heads: Option<&Path>) -> Result<ExitCode, String> {
     let tree = tree::read(root)?;
-    let compiled = kit
-        .map(|kit| kit::functions(kit, root, &tree))
-        .transpose()?;
-    let report = check::check(&tree, compiled.as_ref());
+    let heads = heads.map(seen).transpose()?;
+    let report = check::check(&tree, heads.as_ref());
     print!("{report}");
     Ok(ExitCode::from(u8::from(!report.faults.is_empty())))
+}
+
+fn seen(file: &Path) -> Result<heads::Heads, String> {
+    let told = |what: String| format!("{} {what}", file.display());
+    let text =
+        fs::read_to_string(file).map_err(|error| told(format!("cannot be read: {error}")))?;
+    heads::heads(&text).map_err(told)
 }
 
 fn written(root: &Path) -> Result<ExitCode, String> {

@@ -57,12 +57,15 @@ fn unstated(function: &Function, imports: &HashSet<String>) -> Vec<String> {
     };
     match function.result {
         None => {}
-        Some(Passed::Value) => wanted(Subject::Result, "its result: `r ≡ ..`".to_string()),
+        Some(Passed::Value) => wanted(Subject::Result, "its result: `result ≡ ..`".to_string()),
         Some(_) => {
-            wanted(Subject::ResultNow, "its result: `now r ≡ ..`".to_string());
+            wanted(
+                Subject::ResultNow,
+                "its result: `result.now ≡ ..`".to_string(),
+            );
             wanted(
                 Subject::ResultPlace,
-                "its result's place: `r .ptr ≡ ..`".to_string(),
+                "its result's place: `result.ref_ptr ≡ ..`".to_string(),
             );
         }
     }
@@ -70,7 +73,7 @@ fn unstated(function: &Function, imports: &HashSet<String>) -> Vec<String> {
         if *passed == Passed::Lent {
             wanted(
                 Subject::Lent(name.clone()),
-                format!("`{name}` at exit: `now ({name} .exit) ≡ ..`"),
+                format!("`{name}` at exit: `{name}.new ≡ ..`"),
             );
         }
     }

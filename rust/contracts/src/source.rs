@@ -20,7 +20,7 @@ pub struct Parameter {
     pub passed: Passed,
 }
 
-/// A function as its head states it.
+/// A function as its head states it. The names of its clauses are nobody's.
 #[derive(Clone, Debug)]
 pub struct Function {
     pub file: String,
@@ -88,6 +88,7 @@ fn read(file: &str, module: &str, text: &str, bodiless: bool) -> Result<Source, 
                 ..Source::default()
             },
         };
+        parser.tactic_of_all()?;
         parser.items(module, Place::File)?;
         Ok(parser.found)
     };
@@ -215,24 +216,51 @@ impl<'a> Parser<'a> {
         }
     }
 
-    /// `#[no_mangle]`, which is told, and `#[repr(C)]`.
+    /// `#![tactic(..)]`, which stands at the head of a file alone.
+    fn tactic_of_all(&mut self) -> Read<()> {
+        while self.lexer.begins("#!")? {
+            self.all_of(&["#", "!", "[", "tactic"])?;
+            self.skip("]", &[])?;
+        }
+        Ok(())
+    }
+
+    /// `#[unsafe(no_mangle)]`, which is told, and attributes that leave a contract as it stands: how values are laid out and copied,
+    /// `tactic` for the search of proofs, and what the compiler prints beside a constant.
     fn attribute(&mut self) -> Read<bool> {
         let mut exported = false;
         while self.peek()? == "#" {
             self.expect("#")?;
             self.expect("[")?;
             match self.word()? {
-                "no_mangle" => exported = true,
-                "repr" => {
-                    self.expect("(")?;
-                    self.expect("C")?;
-                    self.expect(")")?;
+                "unsafe" => {
+                    self.all_of(&["(", "no_mangle", ")", "]"])?;
+                    exported = true;
                 }
+                "repr" => self.all_of(&["(", "C", ")", "]"])?,
+                "derive" => self.derived()?,
+                "tactic" => self.skip("]", &[])?,
+                "read_as" if self.bodiless => self.skip("]", &[])?,
                 word => return self.unknown(word, "in an attribute"),
             }
-            self.expect("]")?;
         }
         Ok(exported)
+    }
+
+    fn all_of(&mut self, words: &[&str]) -> Read<()> {
+        words.iter().try_for_each(|word| self.expect(word))
+    }
+
+    /// `(A, B)]`, of traits whose functions are std's.
+    fn derived(&mut self) -> Read<()> {
+        self.expect("(")?;
+        loop {
+            match self.word()? {
+                ")" => return self.expect("]"),
+                "," | "Clone" | "Copy" | "Drop" => {}
+                word => return self.unknown(word, "among what is derived"),
+            }
+        }
     }
 
     /// Whether `pub` stands here; `pub(crate)` is not public.
@@ -368,7 +396,7 @@ impl<'a> Parser<'a> {
         Ok(())
     }
 
-    /// The clauses, each a keyword and braces, and then the body.
+    /// The clauses, each a keyword, perhaps a name, and braces, and then the body.
     fn clauses(&mut self, function: &mut Function) -> Read<()> {
         loop {
             let word = self.word()?;
@@ -379,6 +407,9 @@ impl<'a> Parser<'a> {
             }
             if !["requires", "ensures"].contains(&word) {
                 return self.unknown(word, "in a function's head");
+            }
+            if self.peek()? != "{" {
+                self.name()?;
             }
             self.expect("{")?;
             let text = self.lexer.clause()?.to_string();
@@ -494,17 +525,21 @@ mod tests {
     #[test]
     fn public_functions_are_found_wherever_they_stand() {
         let source = r#"
+            // A library.
+            #![tactic(auto)]
             pub mod code;
-            ghost use a·b.C.{d, _≡_};
+            ghost use a.b.C.{d, ◌≡◌};
             use crate::code::{a, b};
+            #[derive(Clone, Copy)]
             pub struct Ring { pub place: u64 }
             struct Pair(u8, u8);
             pub type Raw = [u8; 16];
             const SIZES: [u8; 2] = [1, 2];
             pub fn free() {}
             fn private() { pub_call(b"}"); }
-            pub(crate) fn near() {}
-            #[no_mangle]
+            pub(crate) fn near() { text("}"); }
+            #[tactic(auto, using(near_is_near))]
+            #[unsafe(no_mangle)]
             pub extern "C" fn exported(x: u8) -> u8 { x }
             // pub fn in_a_comment() {}
             /* pub fn in_another() { /* } */ */
@@ -558,32 +593,29 @@ mod tests {
     fn clauses_are_read_with_inner_braces() {
         let text = "pub fn f(x: u8) -> [u8; 2]
             // a note {
-            requires { ⌜ x < 3 ⌝ }
-            ensures /* { a } */ { λ r. ⌜ r ≡ made (record { a = x; b = 1 }) ⌝ }
-            ensures { λ _. ⌜ x ≡ x ⌝ }
+            requires { x < 3 }
+            ensures out /* { a } */ { result ≡ made (record { a = x; b = 1 }) }
+            ensures same { x ≡ x }
         { [x, x] }";
         let functions = found(text).functions;
         let [f] = &functions[..] else {
             panic!("one function is expected")
         };
         assert!(f.requires && f.result == Some(Passed::Value));
-        let expected = [
-            " λ r. ⌜ r ≡ made (record { a = x; b = 1 }) ⌝ ",
-            " λ _. ⌜ x ≡ x ⌝ ",
-        ];
+        let expected = [" result ≡ made (record { a = x; b = 1 }) ", " x ≡ x "];
         assert_eq!(f.ensures, expected);
     }
 
     #[test]
     fn names_that_are_brought_in_are_known_at_their_lines() {
-        let text = "// one\nghost use a.B.{c, d as e,\n «f_g»};\n\nghost use h.{_≡_};";
+        let text = "// one\nghost use a.B.{c, d as e,\n «f_g»};\n\nghost use h.{◌≡◌};";
         let found = found(text);
         let mut names: Vec<_> = found.imports.into_iter().collect();
         names.sort();
-        assert_eq!(names, ["_≡_", "c", "e", "f_g"]);
+        assert_eq!(names, ["c", "e", "f_g", "◌≡◌"]);
         assert_eq!(
             found.uses,
-            "\nuse a.B.{c, d as e,\n «f_g»}\n\nuse h.{_≡_}\n"
+            "\nuse a.B.{c, d as e,\n «f_g»}\n\nuse h.{◌≡◌}\n"
         );
     }
 
@@ -608,9 +640,17 @@ mod tests {
             "pub use a::b;",
             "extern { fn f(); }",
             "pub extern \"C\" fn f() {}",
-            "#[no_mangle] fn f() {}",
-            "fn f() ghost { ℕ } {}",
-            "fn f() ensures named { x } {}",
+            "#[unsafe(no_mangle)] fn f() {}",
+            "#[no_mangle] pub extern \"C\" fn f() {}",
+            "#[unsafe(export_name = \"g\")] pub extern \"C\" fn f() {}",
+            "#[repr(transparent)] struct W(u8);",
+            "#[derive(Other)] struct W(u8);",
+            "#![allow(x)] fn f() {}",
+            "fn f() {} #![tactic(auto)]",
+            "#[read_as = \"0\"] const X: u8 = 1;",
+            "fn f() ghost n: { ℕ } {}",
+            "fn f() ensures* { x } {}",
+            "fn f() ensures named twice { x } {}",
             "type M = &mut [u8];",
             "struct W { d: &mut [u8] }",
             "ghost use a.B;",

@@ -5,34 +5,62 @@ use crate::declared::has_type;
 use crate::fault::Fault;
 use crate::lex::{antt, bare, Word};
 
-const NAT: &str = "Prim.Native.Nat";
+/// The module that the symbols are taken from: the library's names for clauses and for specs/.
+const PRELUDE: &str = "Rattle.std.specs.Prelude";
 
-/// The symbols, each with the module that it is taken from. `×` is the language's own, and is taken from nowhere.
-const SYMBOLS: [(&str, &str); 13] = [
-    ("_≡_", "mathlib.Core.Path"),
-    ("_<_", NAT),
-    ("_≤_", NAT),
-    ("_+_", NAT),
-    ("_*_", NAT),
-    ("_-_", NAT),
-    ("_/_", NAT),
-    ("_%_", NAT),
-    ("_^_", NAT),
-    ("_×_", ""),
-    ("_∷_", "mathlib.Core.List"),
-    ("length", "lib.ListN"),
-    ("now", "denote.Ref"),
+/// The symbols. What stands in a clause beside these is a name of the library or of specs/.
+const SYMBOLS: [&str; 26] = [
+    "◌≡◌",
+    "◌≢◌",
+    "◌<◌",
+    "◌≤◌",
+    "◌+◌",
+    "◌*◌",
+    "◌-◌",
+    "◌/◌",
+    "◌%◌",
+    "◌^◌",
+    "◌==◌",
+    "◌&&◌",
+    "◌||◌",
+    "◌⊎◌",
+    "◌↔◌",
+    "◌∷◌",
+    "[]",
+    "◌++◌",
+    "length",
+    "min",
+    "true",
+    "false",
+    "not",
+    "eqb",
+    "slice_index",
+    "slice_set",
 ];
 
-/// The libraries that these modules are in. Another thing of such a name would stand in for the library.
-const LIBRARIES: [&str; 4] = ["mathlib", "Prim", "lib", "denote"];
+/// The language's own, which is taken from nowhere.
+const OWN: &str = "◌×◌";
+
+/// The first names of the library's modules, and of those that it is made of. Another thing of such a name would stand in for them.
+const LIBRARIES: [&str; 7] = ["Rattle", "std", "core", "mathlib", "Prim", "lib", "native"];
 
 /// The marks that may stand before the name of a definition.
-const MARKS: [&str; 6] = ["pub", "abbrev", "unfoldable", "axiom", "data", "record"];
+const MARKS: [&str; 7] = [
+    "pub",
+    "abbrev",
+    "pattern",
+    "unfoldable",
+    "axiom",
+    "data",
+    "record",
+];
 
+/// Where a symbol is taken from; none of any other name.
 fn home(name: &str) -> Option<&'static str> {
-    let symbol = SYMBOLS.iter().find(|(symbol, _)| *symbol == bare(name));
-    symbol.map(|(_, home)| *home)
+    match bare(name) {
+        OWN => Some(""),
+        name => SYMBOLS.contains(&name).then_some(PRELUDE),
+    }
 }
 
 /// The faults of a file of `specs/`, or of what a Rattle file brings in.
@@ -45,6 +73,7 @@ pub fn faults(file: &str, text: &str) -> Vec<Fault> {
     }
     if of_specs {
         found.extend(definitions(file, &words));
+        found.extend(whole_paths(file, &words));
     }
     found
 }
@@ -70,6 +99,21 @@ fn definitions(file: &str, words: &[Word]) -> Vec<Fault> {
     }
     found
 }
+
+/// Paths into proofs/ in a definition itself: a name may be written by its module's whole path, with no `use`.
+fn whole_paths(file: &str, words: &[Word]) -> Vec<Fault> {
+    let texts: Vec<&str> = words.iter().map(|word| bare(word.text)).collect();
+    let path = |at: &usize| matches!(texts[*at..], ["Rattle", ".", _, ".", "proofs", ..]);
+    let used = |at: &usize| *at > 0 && texts[*at - 1] == "use";
+    let found = (0..texts.len()).filter(|at| path(at) && !used(at));
+    let told = found.map(|at| {
+        let what = format!("names a file of proofs/, and {MADE_OF}");
+        Fault::new(file, words[at].line, &texts[at..at + 5].concat(), what)
+    });
+    told.collect()
+}
+
+const MADE_OF: &str = "a contract is made of specs/";
 
 /// Renamings of something to a symbol or to a library, in any line that can rename.
 fn renamings(file: &str, words: &[Word]) -> Vec<Fault> {
@@ -105,10 +149,9 @@ impl Used<'_> {
             None if LIBRARIES.contains(&bare(self.name)) && !module.is_empty() => {
                 "hides the library".to_string()
             }
-            None if of_proofs(module) => {
-                format!("is taken from {module}, and a contract is made of specs/")
-            }
-            None if self.name.contains('_') && bare(self.name) == self.name && !of_specs => {
+            None if of_proofs(module) => format!("is taken from {module}, and {MADE_OF}"),
+            None if self.name == "*" => "stands for names that are not written here".to_string(),
+            None if self.name.contains('◌') && !of_specs => {
                 "is an operator that the reader of contracts does not know".to_string()
             }
             None => return None,
@@ -117,11 +160,14 @@ impl Used<'_> {
     }
 }
 
-/// Whether a module is of a crate's proofs, which no reviewer of contracts reads.
+/// Whether a module is of a crate's proofs, which no reviewer of contracts reads: `Rattle.a.proofs.B`, or below another name that a
+/// `use` has brought in.
 fn of_proofs(module: &str) -> bool {
-    let (library, path) = module.split_once('.').unwrap_or((module, ""));
-    let own = library.ends_with("·proofs");
-    library.starts_with("Rattle·") && (own || path.split('.').next() == Some("proofs"))
+    let parts: Vec<&str> = module.split('.').map(bare).collect();
+    match parts[..] {
+        ["Rattle", _, part, ..] => part == "proofs",
+        _ => parts.contains(&"proofs"),
+    }
 }
 
 /// The names of every `use`, also of a `ghost use`: `use M.N` or `use M.{a, b as c, N.d}`.
@@ -181,40 +227,38 @@ mod tests {
 
     #[test]
     fn the_library_s_own_names_pass() {
-        let source = "ghost use mathlib.Core.Path.{_≡_};
-            ghost use mathlib.Core.List.{[]};
-            ghost use Prim.Native.Nat.{ℕ, _+_, _*_, _/_, _%_, _^_, _<_, _≤_};
-            ghost use lib.ListN.{length, getD};
-            ghost use Rattle·io·specs.specs.Digits.{glyph as Digits·glyph};
+        let source = "ghost use Rattle.std.specs.Prelude.{◌≡◌};
+            ghost use Rattle.std.specs.Prelude.{[], ℕ, ◌+◌, ◌*◌, ◌/◌, ◌%◌, ◌^◌, ◌<◌, ◌≤◌, length, take, slice_index};
+            ghost use Rattle.io.specs.Digits.{glyph as digits_glyph, max_len};
             use crate::code;
             pub fn f(length: u32, now: u8) -> u64 { length as u64 }";
         assert_eq!(lines("lib.rt", source), [""; 0]);
         let specs = "-- a list, and its length : as one
-            use Prim.Native.Nat.{ℕ, _-_}
-            use package.lib.ListN.{length}
-            use mathlib.Core.{Path._≡_, List.List}
-            use denote.Ref.{now, at-last}
+            use Rattle.std.specs.Prelude.{ℕ, ◌-◌}
+            use package.Rattle.std.specs.Prelude.{length}
+            use Rattle.std.specs.{Prelude.◌≡◌, Prelude.List}
             use lib.Dec
-            use Rattle·a.specs.proofs.{near}
-            abbrev pub lengthOf : List ℕ → ℕ
-            lengthOf xs =
+            use Rattle.a.specs.proofs.{near, ◌⊕◌}
+            abbrev pub length_of : List ℕ → ℕ
+            length_of xs =
                 length xs
-            {- _≡_ : old -}";
+            {- ◌≡◌ : old -}";
         assert_eq!(lines("A.antt", specs), [""; 0]);
     }
 
     #[test]
     fn a_symbol_defined_anew_is_a_fault() {
         for line in [
-            "_≡_ : ℕ → ℕ → Type 0",
-            "abbrev pub _≡_ : ℕ → ℕ → Type 0",
-            "unfoldable pub _<_ {ℓ} : {A : Type ℓ} → A → A → Type 0",
-            "pub data _≤_ (a : ℕ) : ℕ → Type 0 where",
+            "◌≡◌ : ℕ → ℕ → Type 0",
+            "abbrev pub ◌≡◌ : ℕ → ℕ → Type 0",
+            "unfoldable pub ◌<◌ {ℓ} : {A : Type ℓ} → A → A → Type 0",
+            "pub data ◌≤◌ (a : ℕ) : ℕ → Type 0 where",
             "  length : List ℕ → ℕ",
-            "pub now : ℕ",
-            "_×_ : Type 0 → Type 0 → Type 0",
+            "pub slice_set : ℕ",
+            "pub «true» : ℕ",
+            "◌×◌ : Type 0 → Type 0 → Type 0",
         ] {
-            let text = format!("use Prim.Native.Nat.{{ℕ}}\n{line}\n");
+            let text = format!("use Rattle.std.specs.Prelude.{{ℕ}}\n{line}\n");
             let found = lines("A.antt", &text);
             assert_eq!(found.len(), 1, "{line}");
             assert!(found[0].starts_with("A.antt:2: ") && found[0].contains("is defined here"));
@@ -223,19 +267,24 @@ mod tests {
 
     #[test]
     fn a_symbol_from_elsewhere_is_a_fault() {
-        let found = lines("lib.rt", "ghost use Rattle·a·specs.specs.Eq.{_≡_, fine};");
+        let found = lines("lib.rt", "ghost use Rattle.a.specs.Eq.{◌≡◌, fine};");
         let what =
-            "lib.rt:1: _≡_: is taken from Rattle·a·specs.specs.Eq, and not from mathlib.Core.Path";
+            "lib.rt:1: ◌≡◌: is taken from Rattle.a.specs.Eq, and not from Rattle.std.specs.Prelude";
         assert_eq!(found, [what]);
         for text in [
-            "use mathlib.Core.Nat.{_+_}",
-            "use mathlib.{Core.Nat._<_}",
+            "use mathlib.Core.Nat.{◌+◌}",
+            "use mathlib.{Core.Nat.◌<◌}",
             "pub use lib.Seq.{take, length}",
-            "ghost use a.B.{_×_};",
-            "use Rattle·a.proofs.B.{near}",
-            "use Rattle·a.proofs.B as near",
-            "use Rattle·a·proofs.proofs.B.{near}",
-            "ghost use a.B.{now};",
+            "ghost use a.B.{◌×◌};",
+            "use Rattle.a.proofs.B.{near}",
+            "use Rattle.a.proofs.B as near",
+            "use Rattle.{a.proofs.B.near}",
+            "use Rattle.«a».«proofs».B.{near}",
+            "use a.proofs.B.{near}",
+            "near = Rattle.a.proofs.B.near",
+            "ghost use a.B.{true};",
+            "use a.B.*",
+            "use a.B.{*}",
         ] {
             assert_eq!(lines("A.antt", text).len(), 1, "{text}");
         }
@@ -244,12 +293,13 @@ mod tests {
     #[test]
     fn another_thing_under_a_symbol_s_name_is_a_fault() {
         for text in [
-            "ghost use a.B.{foo as _≡_};",
-            "use Prim.Native.Nat.{_≤_ as _<_}",
-            "open Order o using (below as _<_)",
-            "use a.B as mathlib",
+            "ghost use a.B.{foo as ◌≡◌};",
+            "use Rattle.std.specs.Prelude.{◌≤◌ as ◌<◌}",
+            "open o use {below as ◌<◌}",
+            "use a.B as Rattle",
             "use a.B.lib",
             "mod Prim",
+            "pub mod std",
         ] {
             assert_eq!(lines("A.antt", text).len(), 1, "{text}");
         }

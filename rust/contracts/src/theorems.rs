@@ -249,8 +249,7 @@ impl Asked<'_> {
 
     /// The file of a module of proofs/, or of specs/ where the table names the file.
     fn home(&self, module: &str) -> Option<String> {
-        let (name, path) = module.strip_prefix("Rattle·")?.split_once('.')?;
-        let name = name.trim_end_matches("·proofs").trim_end_matches("·specs");
+        let (name, path) = module.strip_prefix("Rattle.")?.split_once('.')?;
         let file = format!("crates/{name}/{}.antt", path.replace('.', "/"));
         (stands_in(&file, "proofs") || self.listed.contains(file.as_str())).then_some(file)
     }
@@ -302,7 +301,7 @@ fn spelled(used: &Used) -> String {
 
 /// Whether a word is the name that a `use` brings in, or a part of the operator.
 fn cites(used: &Used, word: &str) -> bool {
-    used.name == word || used.name.contains('_') && used.name.split('_').any(|part| part == word)
+    used.name == word || used.name.contains('◌') && used.name.split('◌').any(|part| part == word)
 }
 
 /// docs/THEOREMS.md as it should be.
@@ -383,9 +382,9 @@ mod tests {
     use crate::demo::{demo, lines, one_fault, LAWS};
     use crate::tree::File;
 
-    const PROOFS: &str = "use Prim.Native.Nat.{ℕ, _<_}
-use Rattle·demo·specs.specs.Ends.{End, far}
-use Rattle·demo.proofs.Near as near
+    const PROOFS: &str = "use Rattle.std.specs.Prelude.{ℕ, ◌<◌}
+use Rattle.demo.specs.Ends.{End, far}
+use Rattle.demo.proofs.Near as near
 
 pub record Short (n : ℕ) : Type 0 where
   pub below : n < near.bound
@@ -398,7 +397,7 @@ module _ (m : ℕ) where
 ";
 
     const NEAR: &str =
-        "use Prim.Native.Nat.{ℕ}\n\nabbrev pub bound : ℕ\nbound = 9\n\npub other : ℕ\nother = 1\n";
+        "use Rattle.std.specs.Prelude.{ℕ}\n\nabbrev pub bound : ℕ\nbound = 9\n\npub other : ℕ\nother = 1\n";
 
     /// A repository with these proofs, and a page that was written when they were `PROOFS`.
     fn tree(proofs: &str, near: &str, specs: &str) -> Tree {
@@ -441,9 +440,9 @@ module _ (m : ℕ) where
         let expected = "\n## crates/demo/proofs/Laws.antt
 
 ```text
-Prim.Native.Nat: ℕ, _<_
-Rattle·demo.proofs.Near: all, as near
-Rattle·demo·specs.specs.Ends: End, far
+Rattle.demo.proofs.Near: all, as near
+Rattle.demo.specs.Ends: End, far
+Rattle.std.specs.Prelude: ℕ, ◌<◌
 
 pub record Short (n : ℕ) : Type 0 where
   pub below : n < near.bound
@@ -456,7 +455,7 @@ module _ (m : ℕ) where
 ## crates/demo/proofs/Near.antt
 
 ```text
-Prim.Native.Nat: ℕ
+Rattle.std.specs.Prelude: ℕ
 
 abbrev pub bound : ℕ
 bound = 9
@@ -488,7 +487,7 @@ bound = 9
             let second = "has no such statement";
             assert!(found.iter().any(|line| line.contains(second)), "{found:#?}");
         }
-        let other_proof = PROOFS.replace("law h = ?", "law h = h .below");
+        let other_proof = PROOFS.replace("law h = ?", "law h = h.below");
         assert_eq!(told(&other_proof), [""; 0]);
     }
 

@@ -9,7 +9,7 @@ pub const PROMISES: &str = "docs/PROMISES.md";
 pub const THEOREMS: &str = "docs/THEOREMS.md";
 
 /// A file, by its name from the root of the repository.
-#[derive(Clone, Debug)]
+#[derive(Clone, Debug, PartialEq, Eq)]
 pub struct File {
     pub name: String,
     pub text: String,
@@ -20,9 +20,6 @@ pub struct File {
 pub struct Crate {
     pub name: String,
     pub files: Vec<File>,
-    /// The Rattle files as the compiler printed them when it last proved the crate, under the names of the sources;
-    /// none where the crate is not proved, or a source is younger.
-    pub printed: Vec<File>,
 }
 
 impl Crate {
@@ -37,12 +34,8 @@ impl Crate {
         self.with_modules(&self.files)
     }
 
-    /// The same of what the compiler printed.
-    pub fn printed_modules(&self) -> Vec<(&File, String)> {
-        self.with_modules(&self.printed)
-    }
-
-    fn with_modules<'a>(&self, files: &'a [File]) -> Vec<(&'a File, String)> {
+    /// The same of files that stand for the sources under their names.
+    pub fn with_modules<'a>(&self, files: &'a [File]) -> Vec<(&'a File, String)> {
         let sources = format!("crates/{}/src/", self.name);
         let module = |file: &'a File| {
             let module = file.name.strip_prefix(&sources)?.strip_suffix(".rt")?;
@@ -97,38 +90,9 @@ pub fn read(root: &Path) -> Result<Tree, String> {
             tree.edits
                 .extend(labels.map(|label| format!("{name}/{label}")));
         }
-        let printed = printed(root, &name, &files)?;
-        tree.crates.push(Crate {
-            name,
-            files,
-            printed,
-        });
+        tree.crates.push(Crate { name, files });
     }
     Ok(tree)
-}
-
-/// What the compiler printed of a crate, in the library that it wrote when it proved it.
-fn printed(root: &Path, name: &str, files: &[File]) -> Result<Vec<File>, String> {
-    let library = format!("target/rlib/{name}.rlib");
-    let changed = |file: &str| {
-        fs::metadata(root.join(file))
-            .and_then(|data| data.modified())
-            .ok()
-    };
-    let Some(proved) = changed(&format!("{library}/format")) else {
-        return Ok(Vec::new());
-    };
-    let mut sources = files.iter().filter(|file| file.name.ends_with(".rt"));
-    if sources.any(|file| changed(&file.name).is_none_or(|time| time > proved)) {
-        return Ok(Vec::new());
-    }
-    let mut found = Vec::new();
-    let folder = format!("{library}/lang");
-    collect(root, &format!("{folder}/src"), &mut found)?;
-    for file in &mut found {
-        file.name = file.name.replacen(&folder, &format!("crates/{name}"), 1);
-    }
-    Ok(found)
 }
 
 /// Adds the Rattle and antt files below a folder.

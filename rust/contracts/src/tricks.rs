@@ -3,50 +3,55 @@
 
 use crate::demo::{demo, lines};
 
-const HEAD: &str = "ghost use mathlib.Core.Path.{_≡_};
-ghost use Prim.Native.Nat.{_+_, _<_};
-ghost use Rattle·demo·specs.specs.Demo.{g, last};
+const HEAD: &str = "ghost use Rattle.std.specs.Prelude.{◌≡◌, ◌+◌, ◌<◌};
+ghost use Rattle.demo.specs.Demo.{g, last};
 ";
 
 /// What stands for an honest function `f`, which the others change.
-const HONEST: &str = "pub fn f(x: u8) -> u8 ensures { λ r. ⌜ r ≡ g x ⌝ } { x }";
+const HONEST: &str = "pub fn f(x: u8) -> u8 ensures { result ≡ g x } { x }";
 
 const NO_RESULT: &str = "demo::f: no equation of its result";
-const FORM: &str = "demo::f: its `ensures` is not of the form";
 const UNKNOWN: &str = "which the reader of contracts does not know";
 const HIDDEN: &str = "demo::h: no equation of its result";
 const COMMENT: &str = "in a clause";
 
 /// Tricks with a whole file.
-const FILES: [(&str, &str); 47] = [
-    ("pub fn f(x: u8) -> u8 /* ensures { λ r. ⌜ r ≡ g x ⌝ } */ { x }", NO_RESULT),
+const FILES: [(&str, &str); 57] = [
+    ("pub fn f(x: u8) -> u8 /* ensures { result ≡ g x } */ { x }", NO_RESULT),
     ("/* \" */ pub fn h(x: u8) -> u8 { x } /* \" */", HIDDEN),
-    ("pub fn f(n: &mut u8) ensures { λ _. do v ← ⟦*n⟧ .exit; ⌜ now (n .exit) ≡ v ⌝ } {}", FORM),
-    ("pub fn f(x: u8) -> u8 ensures { λ r. ⌜ r ≡ g x ⌝ // ⌜ r < 9 ⌝\n } { x }", COMMENT),
+    ("pub fn f(n: &mut u8) ensures { do v ← ⟦*n⟧.exit; n.new ≡ v } {}", "an equation of `do v"),
+    ("pub fn f(x: u8) -> u8 ensures { result ≡ g x // × (result < 9)\n } { x }", COMMENT),
     // Comments.
-    ("pub fn f(x: u8) -> u8 /* /* */ ensures { λ r. ⌜ r ≡ g x ⌝ } */ { x }", NO_RESULT),
+    ("pub fn f(x: u8) -> u8 /* /* */ ensures { result ≡ g x } */ { x }", NO_RESULT),
     ("// /*\npub fn h(x: u8) -> u8 { x }\n// */", HIDDEN),
     ("/* // */ pub fn h(x: u8) -> u8 { x }", HIDDEN),
     ("// a\rpub fn h(x: u8) -> u8 { x }", "has a character that cannot be seen"),
     ("// a\u{202e}\npub fn h(x: u8) -> u8 { x }", "has a character that cannot be seen"),
     ("/* pub fn h(x: u8) -> u8 { x }", "has a comment that never ends"),
-    ("pub fn f(x: u8) -> u8 requires /* none */ { ⌜ x < 9 ⌝ } ensures { λ r. ⌜ r ≡ g x ⌝ } { x }", "has a `requires`"),
-    ("pub fn f(x: u8) -> u8 ensures { λ r. ⌜ r < 9 ⌝ -- } ensures { λ r. ⌜ r ≡ g x ⌝\n } { x }", COMMENT),
-    ("pub fn f(x: u8) -> u8 ensures { λ r. {- ⌜ r ≡ g x ⌝ } -} ⌜ r < 9 ⌝ } { x }", COMMENT),
-    ("pub fn f(x: u8) -> u8 ensures { λ r. ⌜ r < \"}\" ⌝ } ensures { λ r. ⌜ r ≡ g x ⌝ } { x }", COMMENT),
-    ("ghost use a.B.{r\u{a0}≡\u{a0}g}; pub fn f(x: u8) -> u8 ensures { λ r. ⌜ r\u{a0}≡\u{a0}g ⌝ } { x }", "cannot be seen"),
-    ("ghost use a.B.{ｒ}; pub fn f(x: u8) -> u8 ensures { λ r. ⌜ r ≡ ｒ ⌝ } { x }", "has `ｒ`"),
+    ("pub fn f(x: u8) -> u8 requires /* none */ { x < 9 } ensures { result ≡ g x } { x }", "has a `requires`"),
+    ("pub fn f(x: u8) -> u8 ensures { result < 9 -- } ensures { result ≡ g x\n } { x }", COMMENT),
+    ("pub fn f(x: u8) -> u8 ensures { {- result ≡ g x } -} result < 9 } { x }", COMMENT),
+    ("pub fn f(x: u8) -> u8 ensures { result < \"}\" } ensures { result ≡ g x } { x }", COMMENT),
+    ("ghost use a.B.{result\u{a0}≡\u{a0}g}; pub fn f(x: u8) -> u8 ensures { result\u{a0}≡\u{a0}g } { x }", "cannot be seen"),
+    ("ghost use a.B.{ｒ}; pub fn f(x: u8) -> u8 ensures { result ≡ ｒ } { x }", "has `ｒ`"),
     // Literals.
     ("fn a() -> u8 { b'\"' } pub fn h(x: u8) -> u8 { x } fn b() -> u8 { b'\"' }", HIDDEN),
     ("fn a() { b\"\\\\\"; } pub fn h(x: u8) -> u8 { x } fn b() { b\"\\\"\"; }", HIDDEN),
     ("fn a() { br\"\\\"; } pub fn h(x: u8) -> u8 { x } fn b() { b\"\"; }", "has a literal that begins with `br`"),
     ("fn a() { '\"'; } pub fn h(x: u8) -> u8 { x } fn b() { '\"'; }", "has a `'` that begins no lifetime"),
-    ("pub fn f(x: u8) -> u8 { b\"ensures { λ r. ⌜ r ≡ g x ⌝ }\"; x }", NO_RESULT),
+    ("pub fn f(x: u8) -> u8 { b\"ensures { result ≡ g x }\"; x }", NO_RESULT),
+    ("fn a() { \"\\\"\"; } pub fn h(x: u8) -> u8 { x } fn b() { \"\\\"\"; }", HIDDEN),
+    ("fn a() { \"\\\\\"; } pub fn h(x: u8) -> u8 { x } fn b() { \"\\\\\"; }", HIDDEN),
+    ("fn a() { f\"{\"; } pub fn h(x: u8) -> u8 { x } fn b() { f\"}\"; }", "has a literal that begins with `f`"),
+    ("pub fn f(x: u8) -> u8 { \"ensures { result ≡ g x }\"; x }", NO_RESULT),
+    ("pub fn f(x: u8) -> u8 \"ensures { result ≡ g x }\" { x }", UNKNOWN),
     // Items.
     ("mod inner { pub fn h(x: u8) -> u8 { x } }", "demo::inner::h: no equation of its result"),
-    ("#[cfg(any())] pub fn f(x: u8) -> u8 ensures { λ r. ⌜ r ≡ g x ⌝ } { x }", "has `cfg` in an attribute"),
-    ("#[ensures { λ r. ⌜ r ≡ g x ⌝ }] pub fn f(x: u8) -> u8 { x }", "has `ensures` in an attribute"),
+    ("#[cfg(any())] pub fn f(x: u8) -> u8 ensures { result ≡ g x } { x }", "has `cfg` in an attribute"),
+    ("#[ensures { result ≡ g x }] pub fn f(x: u8) -> u8 { x }", "has `ensures` in an attribute"),
     ("#![no_mangle] pub fn h(x: u8) -> u8 { x }", "has `!` where `[` is expected"),
+    ("#[tactic(auto, fn h() {})] pub fn f(x: u8) -> u8 ensures { result ≡ g x } { x }", UNKNOWN),
+    ("#[derive(Clone, Model)] struct R { x: u8 }", UNKNOWN),
     ("macro_rules! m { () => { pub fn h(x: u8) -> u8 { x } } } m!();", UNKNOWN),
     ("make! { pub fn h(x: u8) -> u8 { x } }", UNKNOWN),
     ("fn a() { impl R { pub fn h(x: u8) -> u8 { x } } }", UNKNOWN),
@@ -59,68 +64,78 @@ const FILES: [(&str, &str); 47] = [
     ("type M = &mut [u8]; pub fn f(m: M) {}", UNKNOWN),
     ("struct W { to: &mut [u8] } pub fn f(w: W) {}", UNKNOWN),
     ("pub fn f(w: Writer<'a>) {}", UNKNOWN),
-    ("pub fn f(x: u8) -> u8 where ensures: { λ r. ⌜ r ≡ g x ⌝ } { x }", UNKNOWN),
-    ("pub fn f(x: u8) -> u8 ghost { ℕ } ensures { λ k r. ⌜ r ≡ k ⌝ } { x }", UNKNOWN),
-    ("pub fn f(x: u8) -> u8 ensures unless { λ r. ⌜ r ≡ g x ⌝ } { x }", "has `unless` where `{` is expected"),
+    ("pub fn f(x: u8) -> u8 where ensures: { result ≡ g x } { x }", UNKNOWN),
+    ("pub fn f(x: u8) -> u8 ghost k: { ℕ } ensures { result ≡ k } { x }", UNKNOWN),
+    ("pub fn f(x: u8) -> u8 ensures unless x { result ≡ g x } { x }", "has `x` where `{` is expected"),
+    ("pub fn f(x: u8) -> u8 ensures* { result ≡ g x } { x }", UNKNOWN),
     // What is brought in.
-    ("ghost use Rattle·demo·specs.specs.Demo.{_≡_};", "_≡_: is taken from Rattle·demo·specs.specs.Demo"),
-    ("ghost use Rattle·demo·specs.specs.Demo.{_//_};", "has `//` in a `ghost use`"),
-    ("ghost use Rattle·demo·specs.specs.Demo.{_⊕_};", "_⊕_: is an operator that the reader of contracts does not know"),
-    ("ghost use Rattle·other.proofs.Laws.{sly};", "sly: is taken from Rattle·other.proofs.Laws, and a contract is made of specs/"),
-    ("ghost use Rattle·demo·specs.specs.Demo.{first as now};", "now: is given to another name here"),
-    ("ghost use Rattle·demo·specs.specs.Demo;", "names nothing in braces"),
-    ("ghost use Rattle·demo·specs.specs.Demo.{r}; pub fn f(x: u8) -> u8 ensures { λ r. ⌜ r ≡ g x ⌝ } { x }", "which is another thing's"),
+    ("ghost use Rattle.demo.specs.Demo.{◌≡◌};", "◌≡◌: is taken from Rattle.demo.specs.Demo"),
+    ("ghost use Rattle.demo.specs.Demo.{◌//◌};", "has `//` in a `ghost use`"),
+    ("ghost use Rattle.demo.specs.Demo.{◌⊕◌};", "◌⊕◌: is an operator that the reader of contracts does not know"),
+    ("ghost use Rattle.other.proofs.Laws.{sly};", "sly: is taken from Rattle.other.proofs.Laws, and a contract is made of specs/"),
+    ("ghost use Rattle.demo.specs.Demo.{first as length};", "length: is given to another name here"),
+    ("ghost use Rattle.demo.specs.Demo;", "names nothing in braces"),
+    ("ghost use Rattle.demo.specs.Demo.*;", "names nothing in braces"),
+    ("ghost use Rattle.demo.specs.Demo.{result}; pub fn f(x: u8) -> u8 ensures { result ≡ g x } { x }", "which is another thing's"),
+    ("pub fn f(result: u8) -> u8 ensures { result ≡ g 1 } { x }", "which is another thing's"),
 ];
 
 /// Tricks with the clause of `f(x: u8, s: &[u8], mem: &mut [u8]) -> u8`, whose other clauses are honest.
-const CLAUSES: [(&str, &str); 35] = [
-    ("λ r. ⌜ r ≡ r ⌝", "its own subject"),
-    ("λ r. ⌜ r ≡ g (g r) ⌝", "its own subject"),
-    ("λ r. ⌜ r ≡ «r» ⌝", "has `«r»`"),
-    ("λ r. ⌜ r ≡ _ ⌝", "has `_`"),
-    ("λ r. ⌜ r ≡ ?hole ⌝", "has `?hole`"),
-    ("λ r. ⌜ r ≡ y ⌝", "neither a parameter nor brought in"),
-    ("λ r. ⌜ r ≣ g x ⌝", "no equation"),
-    ("λ r. ⌜ r ≡′ g x ⌝", "no equation"),
-    ("λ r. ⌜ r≡ g x ⌝", "no equation"),
-    ("λ r. ⌜ r ≡ g x ≡ x ⌝", "has `≡`"),
-    ("λ r. ⌜ (λ r. r ≡ g x) x ⌝", "an equation of `( λ r . r`"),
-    ("λ r r. ⌜ r ≡ g x ⌝", FORM),
-    ("λ <. ⌜ < < 9 ⌝", "gives the result the name `<`"),
-    ("λ (r : ℕ). ⌜ r ≡ g x ⌝", FORM),
-    ("λ x. ⌜ x ≡ g 1 ⌝", "another thing's"),
-    ("λ now. ⌜ now ≡ g x ⌝", "another thing's"),
-    ("λ r. ⌜ (r ≡ g x) ⊎ (r ≡ x) ⌝", "an equation of `( r`"),
-    ("λ r. ⌜ r ≡ g x ⊎ x ≡ 1 ⌝", "has `⊎`"),
-    ("λ r. ⌜ x < 9 → r ≡ g x ⌝", "which is not the result"),
-    ("λ r. ⌜ r ≡ g x → x < 9 ⌝", "has `→`"),
-    ("λ r. ⌜ ¬ (r ≡ g x) ⌝", "an equation of"),
-    ("λ r. ⌜ cond (x < 9) (r ≡ g x) Unit ⌝", "an equation of"),
+const CLAUSES: [(&str, &str); 48] = [
+    ("result ≡ result", "its own subject"),
+    ("result ≡ g (g result)", "its own subject"),
+    ("result ≡ «result»", "has `«result»`"),
+    ("result ≡ _", "has `_`"),
+    ("result ≡ ?hole", "has `?hole`"),
+    ("result ≡ y", "neither a parameter nor brought in"),
+    ("result ≣ g x", "no equation"),
+    ("result ≡′ g x", "no equation"),
+    ("result ≡' g x", "no equation"),
+    ("result≡ g x", "no equation"),
+    ("result ≡ g x ≡ x", "has `≡`"),
+    ("(λ result. result ≡ g x) x", "has `. result`"),
+    ("λ result. result ≡ g x", "has `. result`"),
+    ("< < 9", "speaks of `<`"),
+    ("λ (result : ℕ). result ≡ g x", "has `. result`"),
+    ("x ≡ g 1", "which is not the result"),
+    ("now ≡ g x", "which is not the result"),
+    ("(result ≡ g x) ⊎ (result ≡ x)", "an equation of `( result`"),
+    ("result ≡ g x ⊎ x ≡ 1", "has `⊎`"),
+    ("x < 9 → result ≡ g x", "which is not the result"),
+    ("result ≡ g x → x < 9", "has `→`"),
+    ("¬ (result ≡ g x)", "an equation of"),
+    ("cond (x < 9) (result ≡ g x) Unit", "an equation of"),
     (
-        "λ r. ⌜ (x < 9 → r ≡ g x) × (r < 9) ⌝",
+        "(x < 9 → result ≡ g x) × (result < 9)",
         "which is not the result",
     ),
-    ("λ r. ⌜ (k : ℕ) × (r ≡ k) ⌝", "no equation"),
-    ("λ r. ⌜ let k = r in r ≡ k ⌝", "an equation of `let"),
-    ("λ r. ⌜ r ≡ g x ⌝ ∨ₛ ⊤ₛ", FORM),
-    ("λ r. ⌜ x < 9 ⌝ →ₛ ⌜ r ≡ g x ⌝", "which is not the result"),
-    ("λ r. ⌜ r ≡ g (now (mem .exit)) ⌝", "has `now`"),
-    ("λ r. ⌜ r ≡ g (x .exit) ⌝", "a value at exit"),
-    ("λ r. ⌜ r ≡ g mem ⌝", "has `mem` whole"),
-    ("λ _. ⌜ now (mem .exit) ≡ now (mem .exit) ⌝", "has `now`"),
-    ("λ _. ⌜ now (mem .exit) ≡ last mem ⌝", "has `mem` whole"),
+    ("(k : ℕ) × (result ≡ k)", "no equation"),
     (
-        "λ _. ⌜ now (mem .exit) ≡ last (mem .entry) ⌝",
-        "has `mem` whole",
+        "(result ≡ g x) × result < 9",
+        "joins by `×` what is not in parentheses",
     ),
-    (
-        "λ _. ⌜ now (s .exit) ≡ now (mem .entry) ⌝",
-        "lends nothing to be changed",
-    ),
-    (
-        "λ _. ⌜ let v = mem .exit in now (mem .exit) ≡ now v ⌝",
-        "an equation of `let",
-    ),
+    ("let k = result in result ≡ k", "an equation of `let"),
+    ("⌜ result ≡ g x ⌝ ∨ₛ ⊤ₛ", "an equation of `⌜ result`"),
+    ("⌜ x < 9 ⌝ →ₛ ⌜ result ≡ g x ⌝", "an equation of `⌜ x"),
+    ("result ≡ g mem.new", "a value at exit"),
+    ("result ≡ g x.exit", "a value at exit"),
+    ("result ≡ g s.new", "a value at exit"),
+    ("result ≡ g mem", "has `mem` whole"),
+    ("result ≡ g mem .old", "has `mem .`"),
+    ("mem .new ≡ g x", "has `mem .`"),
+    ("result ≡ g mem.now", "has `mem.now`"),
+    ("result ≡ g s.old", "has `s.old`"),
+    ("result ≡ g x.now", "has `.now`"),
+    ("result ≡ (◌+ 1) x", "has `◌+`"),
+    ("result ≡ Rattle.demo.proofs.Laws.sly x", "has `Rattle`"),
+    ("result ≡ Prim.search", "has `Prim`"),
+    ("mem.new ≡ mem.new", "a value at exit"),
+    ("mem.new ≡ last mem", "has `mem` whole"),
+    ("mem.new ≡ last mem.entry", "has `mem.entry`"),
+    ("mem.old ≡ g x", "an equation of `mem . old`"),
+    ("s.new ≡ mem.old", "lends nothing to be changed"),
+    ("x.new ≡ g x", "lends nothing to be changed"),
+    ("let v = mem.exit in mem.new ≡ v.now", "an equation of `let"),
 ];
 
 fn told(source: &str) -> Vec<String> {
@@ -132,7 +147,7 @@ fn told(source: &str) -> Vec<String> {
 }
 
 fn of_f(clause: &str) -> String {
-    let honest = "ensures { λ r. ⌜ r ≡ g x ⌝ } ensures { λ _. ⌜ now (mem .exit) ≡ g x ⌝ }";
+    let honest = "ensures out { result ≡ g x } ensures memory { mem.new ≡ g x }";
     format!("pub fn f(x: u8, s: &[u8], mem: &mut [u8]) -> u8 {honest} {clause} {{ x }}")
 }
 
@@ -141,9 +156,7 @@ fn what_is_honest_passes() {
     assert_eq!(told(HONEST), [""; 0]);
     assert_eq!(told(&of_f("")), [""; 0]);
     assert_eq!(
-        told(&of_f(
-            "ensures { λ r. ⌜ (r ≡ x) × (now (mem .exit) ≡ g (now (s .entry))) ⌝ }"
-        )),
+        told(&of_f("ensures both { (result ≡ x) × (mem.new ≡ g s.now) }")),
         [""; 0]
     );
 }
@@ -162,7 +175,7 @@ fn no_trick_with_a_file_passes() {
 #[test]
 fn no_trick_with_a_clause_passes() {
     for (trick, what) in CLAUSES {
-        let told = told(&of_f(&format!("ensures {{ {trick} }}")));
+        let told = told(&of_f(&format!("ensures other {{ {trick} }}")));
         assert!(
             told.iter().any(|line| line.contains(what)),
             "{trick}\n{told:#?}"

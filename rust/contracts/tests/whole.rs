@@ -23,7 +23,17 @@ impl Repository {
     }
 
     fn check(&self) -> (Option<i32>, String) {
-        let output = run(&[self.0.as_os_str()]);
+        Self::said(&[self.0.as_os_str()])
+    }
+
+    /// The check with what the compiler read.
+    fn check_beside(&self, heads: &str) -> (Option<i32>, String) {
+        self.write("target/HEADS", heads);
+        Self::said(&[self.0.as_os_str(), self.0.join("target/HEADS").as_os_str()])
+    }
+
+    fn said(arguments: &[&std::ffi::OsStr]) -> (Option<i32>, String) {
+        let output = run(arguments);
         let text = String::from_utf8(output.stdout).expect("the output is text");
         (output.status.code(), text)
     }
@@ -42,7 +52,7 @@ fn run(arguments: &[&std::ffi::OsStr]) -> Output {
         .expect("the program can be run")
 }
 
-const PROMISES: &str = "| `trb::ring::Ring::new` | ringAt |
+const PROMISES: &str = "| `trb::ring::Ring::new` | ring_at |
 | `trb::ring::fill` | length |
 
 ## Theorems that belong to no function
@@ -56,25 +66,25 @@ const PROMISES: &str = "| `trb::ring::Ring::new` | ringAt |
 1. `law`, of `rings`.
 ";
 
-const LAWS: &str = "use mathlib.Core.Path.{_≡_}
+const LAWS: &str = "use Rattle.std.specs.Prelude.{◌≡◌}
 
 pub law : (n : ℕ) → n ≡ n
 law n = refl
 ";
 
-const RING: &str = "ghost use mathlib.Core.Path.{_≡_};
-ghost use Rattle·trb·specs.specs.Lib.{ringAt};
+const RING: &str = "ghost use Rattle.std.specs.Prelude.{◌≡◌};
+ghost use Rattle.trb.specs.Lib.{ring_at};
 
 impl Ring {
     pub fn new(place: u64) -> Self
-        ensures { λ r. ⌜ r ≡ ringAt place ⌝ }
+        ensures { result ≡ ring_at place }
     {
         Ring { place }
     }
 }
 
 pub fn fill(mem: &mut [u8])
-    ensures { λ _. ⌜ length (now (mem .exit)) ≡ length (now (mem .entry)) ⌝ }
+    ensures { length mem.new ≡ length mem.old }
 {
 }
 ";
@@ -107,11 +117,11 @@ fn a_good_repository_passes() {
 fn faults_are_told_in_order() {
     let made = repository("bad");
     made.write("docs/LOOSE.md", "- `trb::fill`: any bytes will do.\n");
-    made.write("crates/show/specs/Lib.antt", "_<_ : ℕ → ℕ → Type 0\n");
+    made.write("crates/show/specs/Lib.antt", "◌<◌ : ℕ → ℕ → Type 0\n");
     let (status, text) = made.check();
     let expected = "\
-crates/show/specs/Lib.antt:1: _<_: is defined here, but a contract's symbol means what the library says
-crates/trb/src/ring.rt:12: trb::ring::fill: its `ensures` has an equation of `length ( now ( mem . exit ) )`
+crates/show/specs/Lib.antt:1: ◌<◌: is defined here, but a contract's symbol means what the library says
+crates/trb/src/ring.rt:12: trb::ring::fill: its `ensures` has an equation of `length mem . new`
 docs/LOOSE.md:1: trb::fill: names no public function
 contracts: 2 public functions, 0 loose, 3 faults
 ";
@@ -133,50 +143,56 @@ contracts: 2 public functions, 1 loose, 2 faults
     assert_eq!(status, Some(1));
 }
 
-/// `RING` as the compiler prints it.
-const PRINTED: &str = "ghost use mathlib.Core.Path.{_≡_};
+/// What the compiler read: `RING` as it prints it.
+const HEADS: &str = "== crates/trb/src/lib.rt
+pub mod ring ;
+== crates/trb/src/ring.rt
+ghost use Rattle.std.specs.Prelude.{◌≡◌};
 impl Ring {
 pub fn new ( place : u64 ) -> Self
-        ensures { λ r. ⌜ r ≡ ringAt place ⌝ } ;
+        ensures { result ≡ ring_at place } ;
 }
 pub fn fill ( mem : & mut [ u8 ] )
-    ensures { λ _. ⌜ length (now (mem .exit)) ≡ length (now (mem .entry)) ⌝ } ;
+    ensures { length mem.new ≡ length mem.old } ;
 ";
 
 #[test]
-fn what_the_compiler_printed_is_read_too() {
+fn what_the_compiler_read_is_read_too() {
     let made = repository("printed");
-    made.write("target/rlib/trb.rlib/format", "");
-    made.write("target/rlib/trb.rlib/lang/src/lib.rt", "pub mod ring ;\n");
-    made.write("target/rlib/trb.rlib/lang/src/ring.rt", PRINTED);
-    let (status, text) = made.check();
-    assert!(
-        text.starts_with("contracts: 1 crates are read twice"),
-        "{text}"
-    );
+    let (status, text) = made.check_beside(HEADS);
+    let expected = "\
+contracts: 1 crates are read twice, here and by the compiler
+contracts: 2 public functions, 1 loose, 0 faults
+";
+    assert_eq!(text, expected);
     assert_eq!(status, Some(0));
-    let other = PRINTED.replace("ringAt place", "ringAt 1");
-    made.write("target/rlib/trb.rlib/lang/src/ring.rt", &other);
-    let (status, text) = made.check();
-    let what = "crates/trb/src/ring.rt:5: trb::ring::Ring::new: is not as the compiler printed it";
+    let (status, text) = made.check_beside(&HEADS.replace("ring_at place", "ring_at 1"));
+    let what = "crates/trb/src/ring.rt:5: trb::ring::Ring::new: is not as the compiler read it";
     assert!(text.starts_with(what), "{text}");
     assert_eq!(status, Some(1));
-    made.write("crates/trb/src/ring.rt", RING);
-    let (status, text) = made.check();
-    assert_eq!(text, "contracts: 2 public functions, 1 loose, 0 faults\n");
-    assert_eq!(status, Some(0));
+    let (status, text) = made.check_beside("");
+    let what =
+        "crates/trb/src/ring.rt:5: trb::ring::Ring::new: is not among what the compiler read";
+    assert!(text.starts_with(what), "{text}");
+    assert_eq!(status, Some(1));
 }
 
 #[test]
-fn a_kit_that_is_not_there_is_told() {
-    let made = repository("no-kit");
-    let output = run(&[made.0.as_os_str(), made.0.as_os_str()]);
-    assert_eq!(output.status.code(), Some(2));
-    let line = String::from_utf8_lossy(&output.stderr).into_owned();
-    assert!(
-        line.starts_with("contracts: cannot run ") && line.lines().count() == 1,
-        "{line}"
-    );
+fn what_cannot_be_read_is_told() {
+    let made = repository("unread");
+    let gone = made.0.join("target/HEADS");
+    made.write("target/OTHER", "lomvigast 0.1.0\n");
+    let other = made.0.join("target/OTHER");
+    for file in [gone, other] {
+        let output = run(&[made.0.as_os_str(), file.as_os_str()]);
+        assert_eq!(output.status.code(), Some(2));
+        let line = String::from_utf8_lossy(&output.stderr).into_owned();
+        let first = format!("contracts: {} ", file.display());
+        assert!(
+            line.starts_with(&first) && line.lines().count() == 1,
+            "{line}"
+        );
+    }
 }
 
 #[test]
