@@ -1,7 +1,7 @@
 -- Laws of bytes in a list, each once, over the width. Assumes nothing.
-use Rattle.std.proofs.Common.{◌≡◌, ℕ, zero, suc, ◌+◌, ◌-◌, ◌*◌, ◌^◌, ◌<◌, ◌≤◌, ◌⊎◌, List, [], ◌∷◌, ◌++◌, length, get_or, take, drop, set, sym, refl, ap, ◌∙◌, ap₂, inl, inr, append_assoc, add-zero, add_assoc, mul_assoc, suc-add, one-mul, zero-add, mul-add, one-add, arith, length-drop, length-take-le, get_or-drop, get_or-set_other, get_or-take, drop-drop, take_at, drop_at}
+use Rattle.std.proofs.Common.{◌≡◌, ℕ, zero, suc, ◌+◌, ◌-◌, ◌*◌, ◌^◌, ◌<◌, ◌≤◌, ◌⊎◌, List, [], ◌∷◌, ◌++◌, length, get_or, take, drop, set, sym, refl, ap, ◌∙◌, ap₂, inl, inr, append_assoc, append-nil, add-zero, add_assoc, mul_assoc, suc-add, one-mul, zero-add, mul-add, one-add, arith, length-drop, length-take-le, get_or-drop, get_or-set_other, get_or-take, drop-drop, take_at, drop_at}
 use native.Mathlib.Nat.{add-sub_cancel_left, pow-zero, pow-succ'}
-use lib.Seq.{sets, sets-eq, length-sets}
+use lib.Seq.{take-length, drop-length, sets, sets-eq, length-sets}
 use Rattle.guest.specs.Bytes.{le, part, write}
 
 -- ---- numbers
@@ -25,11 +25,31 @@ le_lt (suc k) m a b = rw pow-succ' (omega (arith, b a, le_lt k m (a + 1) b))
 
 -- ---- parts
 
+-- a copy of as many elements as there is room for
+copied : (s d : List ℕ) → length d ≡ length s → take (length s) s ++ drop (length s) d ≡ s
+copied s d e = rw (take-length, ← e, drop-length, append-nil)
+
+-- what a copy of the part of m from a to a + k, and a copy into that part, leave
 module _ (k a : ℕ) (m : List ℕ) (fits : a + k ≤ length m) where
-  -- what a copy into the part of m from a to a + k leaves
-  pub stored : (v : List ℕ) → length v ≡ k → take a m ++ (v ++ drop (a + k - a) (drop a m)) ≡ write m a v
+  abbrev span : List ℕ
+  span = take (a + k - a) (drop a m)
+
+  span_length : length span ≡ k
+  span_length = rw (add-sub_cancel_left a k, length-take-le k (drop a m) (rw length-drop (omega arith)))
+
+  pub loaded : (d : List ℕ) → length d ≡ k → take (length span) span ++ drop (length span) d ≡ part m a k
+  unfolding part
+  loaded d e = copied span d (e ∙ sym span_length) ∙ ap (λ (n : ℕ). take n (drop a m)) (add-sub_cancel_left a k)
+
+  pub stored : (v : List ℕ) → length v ≡ k
+      → take a m ++ ((take (length v) v ++ drop (length v) span) ++ drop (a + k - a) (drop a m)) ≡ write m a v
   unfolding write
-  stored v e = rw (add-sub_cancel_left a k, drop-drop, e)
+  stored v e = rw (copied v span (span_length ∙ sym e), add-sub_cancel_left a k, drop-drop, e)
+
+  -- and a copy of all of v into that part
+  pub filled : (v : List ℕ) → length v ≡ k → take a m ++ (v ++ drop (a + k - a) (drop a m)) ≡ write m a v
+  unfolding write
+  filled v e = rw (add-sub_cancel_left a k, drop-drop, e)
 
   pub part_length : length (part m a k) ≡ k
   unfolding part
