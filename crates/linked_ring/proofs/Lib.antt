@@ -1,3 +1,4 @@
+pub mod Lent
 pub mod Links
 pub mod FromZero
 pub mod Further
