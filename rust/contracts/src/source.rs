@@ -82,6 +82,7 @@ fn read(file: &str, module: &str, text: &str, bodiless: bool) -> Result<Source, 
             file,
             lexer: Lexer::new(text)?,
             bodiless,
+            private: false,
             ahead: None,
             found: Source {
                 file: file.to_string(),
@@ -126,6 +127,8 @@ struct Parser<'a> {
     lexer: Lexer<'a>,
     /// Whether a function ends in `;` and has no body.
     bodiless: bool,
+    /// Whether the head that is read is a private function's, whose types may be of further forms.
+    private: bool,
     ahead: Option<Word<'a>>,
     found: Source,
 }
@@ -369,8 +372,12 @@ impl<'a> Parser<'a> {
     /// A function, from its name to the end of its body.
     fn function(&mut self, path: &str, public: bool, line: usize) -> Read<()> {
         let path = format!("{path}::{}", self.name()?);
+        self.private = !public;
         if self.peek()? == "<" {
-            self.lifetimes()?;
+            match self.private {
+                true => self.generics()?,
+                false => self.lifetimes()?,
+            }
         }
         self.expect("(")?;
         let parameters = self.parameters()?;
@@ -432,6 +439,24 @@ impl<'a> Parser<'a> {
         }
     }
 
+    /// `<..>`, after a type or a function's name.
+    fn generics(&mut self) -> Read<()> {
+        self.expect("<")?;
+        let mut depth = 1;
+        while depth > 0 {
+            match self.word()? {
+                "<" => depth += 1,
+                ">" => depth -= 1,
+                "impl" | "dyn" => {}
+                word if OF_ITEMS.contains(&word) || ["{", "}", ";"].contains(&word) => {
+                    return self.unknown(word, "between a type's angle brackets")
+                }
+                _ => {}
+            }
+        }
+        Ok(())
+    }
+
     fn parameters(&mut self) -> Read<Vec<Parameter>> {
         let mut found = Vec::new();
         loop {
@@ -480,7 +505,8 @@ impl<'a> Parser<'a> {
         Ok(Passed::Lent)
     }
 
-    /// A type: a path, an array or a slice of one, or a reference to one of these.
+    /// A type: a path, an array or a slice of one, or a reference to one of these. In a private function's head also a type with
+    /// parameters, a tuple, or a type that has a trait, as `impl Print`.
     fn kind(&mut self) -> Read<Passed> {
         let passed = self.reference()?;
         self.plain()?;
@@ -488,11 +514,21 @@ impl<'a> Parser<'a> {
     }
 
     fn plain(&mut self) -> Read<()> {
+        if self.private && self.peek()? == "(" {
+            self.expect("(")?;
+            return self.skip(")", &[]);
+        }
+        if self.private && self.peek()? == "impl" {
+            self.expect("impl")?;
+        }
         if self.peek()? != "[" {
             self.name()?;
             while self.peek()? == "::" {
                 self.expect("::")?;
                 self.name()?;
+            }
+            if self.private && self.peek()? == "<" {
+                self.generics()?;
             }
             return Ok(());
         }
@@ -537,6 +573,7 @@ mod tests {
             const SIZES: [u8; 2] = [1, 2];
             pub fn free() {}
             fn private() { pub_call(b"}"); }
+            fn generic<R: Read>(rt: &impl Print, x: (u8, R), y: Vec<Option<u8>>) -> io::Result<()> { Ok(()) }
             pub(crate) fn near() { text("}"); }
             #[tactic(auto, using(near_is_near))]
             #[unsafe(no_mangle)]
@@ -559,7 +596,7 @@ mod tests {
             "crate::last",
         ];
         assert_eq!(paths(source), expected);
-        assert_eq!(found(source).functions.len(), 8);
+        assert_eq!(found(source).functions.len(), 9);
     }
 
     #[test]
@@ -633,6 +670,10 @@ mod tests {
             "pub fn f<T>(x: T) {}",
             "pub fn f(x: Cell<u8>) {}",
             "pub fn f(x: (u8, u8)) {}",
+            "pub fn f(x: &impl Print) {}",
+            "pub fn f() -> io::Result<()> {}",
+            "fn f(x: Vec<u8, fn g() {}>) {}",
+            "fn f(x: (u8, fn g() {})) {}",
             "pub fn f((x): u8) {}",
             "pub fn f<'a>() where 'a: 'a {}",
             "impl Ring<'a> {}",
