@@ -2,12 +2,21 @@
 //! where there are none of these sources yet.
 
 use std::env;
+use std::fs;
 use std::path::PathBuf;
 use std::process::{exit, Command, Stdio};
 
 fn main() {
-    for source in ["archives", "../../crates", "../../crates.txt"] {
+    for source in ["archives", "../../crates.txt"] {
         println!("cargo:rerun-if-changed={source}");
+    }
+    // Not the crates whole: beside their sources stands out/, which `rt` writes to.
+    for folder in fs::read_dir("../../crates").expect("the crates stand beside rust/") {
+        let folder = folder.expect("a crate").path();
+        let parts = ["src", "specs", "proofs"].map(|part| folder.join(part));
+        for source in parts.iter().filter(|part| part.is_dir()) {
+            println!("cargo:rerun-if-changed={}", source.display());
+        }
     }
     println!("cargo:rerun-if-env-changed=LOMVIGAST_ARCHIVE");
     let said = Command::new("sh")
