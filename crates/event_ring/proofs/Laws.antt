@@ -136,7 +136,7 @@ module _ (m : Memory) (s : EventRing) (ev : EventTrb) (report : ℕ) (x : TrbAns
   pub add_unwritten : (x.refusal ≡ 0 → ⊥) → (refused_at s x.refusal ≡ added m s ev report) × (m.bytes ≡ (added_memory m s ev report).bytes)
   unfolding added added_memory
   add_unwritten h = (
-    sym (judge_append (event_tests ev) (step_tests m s report) (refused_at s) (moved_to (next_state m s)) ∙ bytes_stops ev s.cycle x e h (refused_at s) _),
+    sym (judge_append (event_tests ev) (step_tests m s report) (refused_at s) _ ∙ bytes_stops ev s.cycle x e h (refused_at s) _),
     ap (λ (w : Memory). w.bytes)
         (sym (judge_append (event_tests ev) (step_tests m s report) (λ n. m) (write m s.place (event_bytes ev s.cycle)) ∙ bytes_stops ev s.cycle x e h (λ n. m) _)),
   )
