@@ -9,7 +9,7 @@ use crate::lex::{antt, bare, Word};
 const PRELUDE: &str = "Rattle.std.specs.Prelude";
 
 /// The symbols. What stands in a clause beside these is a name of the library or of specs/.
-const SYMBOLS: [&str; 26] = [
+const SYMBOLS: [&str; 37] = [
     "◌≡◌",
     "◌≢◌",
     "◌<◌",
@@ -34,8 +34,19 @@ const SYMBOLS: [&str; 26] = [
     "false",
     "not",
     "eqb",
+    "ltb",
+    "nat_le",
+    "nat_lt",
+    "cond",
     "slice_index",
     "slice_set",
+    "get_or",
+    "replicate",
+    "ℕ",
+    "zero",
+    "suc",
+    "Bool",
+    "List",
 ];
 
 /// The language's own, which is taken from nowhere.
