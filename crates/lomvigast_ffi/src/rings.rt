@@ -120,7 +120,7 @@ pub fn lomvigast_configure(
 ) -> u8
     ensures { (result ≡ (configured (window start mem.now) (state_of ring.old) table entries).refusal) × (ring.new ≡ ring_after (configured (window start mem.now) (state_of ring.old) table entries) ring.old) }
 {
-    let moved = state(ring).configure(start, mem, table, entries);
+    let moved = EventRing::new().configure(start, mem, table, entries);
     if moved.refusal != 0 {
         return moved.refusal;
     }
@@ -138,7 +138,7 @@ pub fn lomvigast_configure_reader(
 ) -> u8
     ensures { (result ≡ (reader_configured (window start mem.now) (reader_at (state_of reader.old)) table entries).refusal) × (reader.new ≡ reader_after (reader_configured (window start mem.now) (reader_at (state_of reader.old)) table entries) reader.old) }
 {
-    let state = state(reader);
+    let state = EventRing::new();
     let moved = EventReader { state }.configure(start, mem, table, entries);
     if moved.refusal != 0 {
         return moved.refusal;
