@@ -1,4 +1,4 @@
-// Guest memory and the rings over the C calling convention; trb_ffi has the rest. A ring's state is words that the caller keeps and lends
+// Guest memory and the rings as Rust and C have them; trb_ffi has the rest, and lomvigast_ffi_c exports what is here. A ring's state is words that the caller keeps and lends
 // to be changed in place; an answer stands in a register, or in words that the caller lends.
 #![tactic(auto)]
 

@@ -1,5 +1,5 @@
-// TRBs and codes over the C calling convention, as lomvigast_ffi has memory and the rings: apart from it so that the two are proved at the
-// same time, and so that what is quick is inlined into its export. A TRB comes in as two numbers; an answer goes into words that the
+// TRBs and codes as Rust and C have them, as lomvigast_ffi has memory and the rings: apart from it so that the two are proved at the same
+// time, and so that what is quick is inlined into its export (trb_ffi_c). A TRB comes in as two numbers; an answer goes into words that the
 // caller lends, which are then those of Rust's enum and of C's union (include/lomvigast.h), or stands in registers.
 #![tactic(auto)]
 
