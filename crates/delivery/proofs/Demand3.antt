@@ -313,9 +313,9 @@ module _ (s : Setup) (W : Premises s) (R : Reader) (Q : Reads s R) where
   ring_configured_lem : configured s.ring_mem s.ring s.table s.entries ≡ moved_to (walk s 0)
   ring_configured_lem = configures s W s.ring_mem (kept_earlier s s.ring_mem W.ring_earlier) s.ring
 
-  start-inv : Inv s R Q (demand.started s R) empty_list
+  start_inv : Inv s R Q (demand.started s R) empty_list
   unfolding walk
-  start-inv =
+  start_inv =
       record {
         kept = record { start = refl; len = refl; table = λ x low high. refl };
         ring_at = ap (λ (x : Moved). x.ring) ring_configured_lem;
@@ -346,7 +346,7 @@ module _ (s : Setup) (W : Premises s) (R : Reader) (Q : Reads s R) where
 
   delivers : (ops : List Op) → AllAllowed s ops → Delivers s R ops
   delivers ops h =
-      let r = answers_same ops (demand.started s R) empty_list start-inv h in
+      let r = answers_same ops (demand.started s R) empty_list start_inv h in
       let I = r.1 in
       record {
         answered = r.0;

@@ -12,7 +12,7 @@ use Rattle.guest.proofs.Tests.{both}
 use Rattle.guest.proofs.Judge.{Passes, Numbered, judge_append, judge_passes, answer_passes, answer_given, answer_stops}
 use Rattle.guest.proofs.Bytes.{le_add}
 use Rattle.guest.proofs.Memory.{le_part, offset_add}
-use Rattle.event_ring.specs.Ring.{entry_at, count_ok, ok_state, last, entry_tests, next_tests, next_state, refused_at, moved_to, next, step_tests, add_tests, add_step, added, added_memory}
+use Rattle.event_ring.specs.Ring.{entry_at, count_ok, ok_state, last, entry_tests, next_tests, next_state, refused_at, moved_to, next, configure_tests, started, configured, step_tests, add_tests, add_step, added, added_memory}
 use Rattle.guest.specs.declared.TrbAnswer.{TrbAnswer}
 use Rattle.trb.specs.Events.{event_tests, event_bytes, bytes_answered}
 use Rattle.trb.specs.declared.event.EventTrb.{EventTrb}
@@ -92,6 +92,26 @@ module _ (m : Memory) (s : EventRing) (x : Moved) (e : x ≡ next m s) where
 
   pub next_stops : (x.refusal ≡ 0 → ⊥) → {B : Type 0} (r : ℕ → B) (b : B) → judge (next_tests m s) r b ≡ r x.refusal
   next_stops = answer_stops (λ (r : Moved). r.refusal) (next_tests m s) (next_numbered m s) (refused_at s) (moved_to (next_state m s)) (λ n. refl) refl x e
+
+-- what configure answered of one ring says what it answers of any: a refusal alone shows the ring
+configure_numbered : (m : Memory) (table entries : ℕ) → Numbered (configure_tests m table entries)
+configure_numbered m table entries = (lit< tt, (lit< tt, (lit< tt, (lit< tt, tt))))
+
+module _ (m : Memory) (s t : EventRing) (table entries : ℕ) (x : Moved) (e : x ≡ configured m s table entries) where
+  pub configured_given : x.refusal ≡ 0 → configured m t table entries ≡ x
+  unfolding configured
+  configured_given h =
+      let number : Moved → ℕ = λ (r : Moved). r.refusal in
+      let tests = configure_tests m table entries in
+      let answer = moved_to (started m table entries) in
+      judge_passes tests (refused_at t) answer (answer_passes number tests (configure_numbered m table entries) (refused_at s) answer (λ n. refl) refl x e h)
+      ∙ sym (answer_given number tests (configure_numbered m table entries) (refused_at s) answer (λ n. refl) refl x e h)
+
+  pub configured_stops : (x.refusal ≡ 0 → ⊥) → configured m t table entries ≡ refused_at t x.refusal
+  unfolding configured
+  configured_stops h =
+      answer_stops (λ (r : Moved). r.refusal) (configure_tests m table entries) (configure_numbered m table entries)
+      (refused_at s) (moved_to (started m table entries)) (λ n. refl) refl x e h (refused_at t) (moved_to (started m table entries))
 
 -- what an event's bytes answered
 module _ (ev : EventTrb) (c : Bool) (x : TrbAnswer) (e : x ≡ bytes_answered ev c) where

@@ -1,17 +1,16 @@
 -- A refusal changes no byte and no ring, whatever the operation, the memory and the states. Assumes nothing.
-use Prim.{tt}
-use Rattle.std.proofs.Common.{◌≡◌, ℕ, refl, ap, lit<}
+use Rattle.std.proofs.Common.{◌≡◌, ℕ, refl, ap}
 use Rattle.guest.specs.Judge.{judge}
 use Rattle.guest.specs.Memory.{Memory, write}
-use Rattle.guest.proofs.Judge.{Numbered, answer_stops}
+use Rattle.guest.proofs.Judge.{answer_stops}
 use Rattle.trb.specs.Events.{event_bytes}
 use Rattle.trb.specs.declared.event.EventTrb.{EventTrb}
-use Rattle.event_ring.specs.Ring.{empty, configure_tests, started, configured, add_tests, next_state, refused_at, moved_to, added, added_memory, reader_at, reader_configured, take, take_tests, take_refused, fresh_of, number_of}
+use Rattle.event_ring.specs.Ring.{empty, configured, add_tests, next_state, refused_at, moved_to, added, added_memory, reader_at, reader_configured, take, take_tests, take_refused, fresh_of, number_of}
 use Rattle.event_ring.specs.declared.EventRing.{EventRing}
 use Rattle.event_ring.specs.declared.EventReader.{EventReader}
 use Rattle.event_ring.specs.declared.Moved.{Moved}
 use Rattle.event_ring.specs.declared.Taken.{Taken}
-use Rattle.event_ring.proofs.Laws.{add_numbered}
+use Rattle.event_ring.proofs.Laws.{configured_stops, add_numbered}
 use Rattle.event_ring.proofs.Standard.{given, given_number, take_numbered}
 
 -- all that an operation can change
@@ -47,14 +46,8 @@ leaves w resets_reader = record { mem = w.mem; ring = w.ring; reader = reader_at
 leaves w (configures_reader table entries) = record { mem = w.mem; ring = w.ring; reader = (reader_configured w.mem w.reader table entries).reader }
 leaves w takes = record { mem = w.mem; ring = w.ring; reader = (take w.mem w.reader).reader }
 
-configure_numbered : (m : Memory) (table entries : ℕ) → Numbered (configure_tests m table entries)
-configure_numbered m table entries = (lit< tt, (lit< tt, (lit< tt, (lit< tt, tt))))
-
 configure_stops : (m : Memory) (s : EventRing) (table entries : ℕ) → ((configured m s table entries).refusal ≡ 0 → ⊥) → (configured m s table entries).ring ≡ s
-unfolding configured
-configure_stops m s table entries h =
-    ap (λ (x : Moved). x.ring)
-    (answer_stops (λ (x : Moved). x.refusal) (configure_tests m table entries) (configure_numbered m table entries) (refused_at s) (moved_to (started m table entries)) (λ n. refl) refl (configured m s table entries) refl h (refused_at s) (moved_to (started m table entries)))
+configure_stops m s table entries h = ap (λ (x : Moved). x.ring) (configured_stops m s s table entries (configured m s table entries) refl h)
 
 module _ (m : Memory) (s : EventRing) (e : EventTrb) (report : ℕ) (h : (added m s e report).refusal ≡ 0 → ⊥) where
   add_stops : {B : Type 0} (r : ℕ → B) (b : B) → judge (add_tests m s e report) r b ≡ r (added m s e report).refusal

@@ -4,4 +4,3 @@ pub mod Usual
 pub mod Links
 pub mod Back
 pub mod Unmoved
-pub mod Configured

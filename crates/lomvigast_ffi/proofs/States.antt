@@ -1,5 +1,5 @@
 -- A ring's words and its state: what the words of the usual case say, and where a step leads. Assumes nothing.
-use Rattle.std.proofs.Common.{◌≡◌, ℕ, zero, suc, ◌+◌, ◌-◌, ◌%◌, ◌^◌, ◌<◌, ◌≤◌, true, false, ◌&&◌, eqb, ltb, leb, List, get_or, refl, mod-eq_of_lt, arith, ltb-true, lt-ltb, eq-eqb, ne_eqb, eqb-true, le-leb, leb-true}
+use Rattle.std.proofs.Common.{◌≡◌, ℕ, zero, suc, ◌+◌, ◌-◌, ◌*◌, ◌/◌, ◌%◌, ◌^◌, ◌<◌, ◌≤◌, true, false, ◌&&◌, eqb, ltb, leb, List, get_or, refl, mod-eq_of_lt, arith, ltb-true, lt-ltb, eq-eqb, ne_eqb, eqb-true, le-leb, leb-true}
 use Rattle.guest.proofs.Tests.{both}
 use Rattle.trb.specs.Trb.{bit}
 use Rattle.event_ring.specs.Ring.{ok_state, along}
@@ -98,6 +98,10 @@ module _ (ws : List ℕ) (h : plain ws ≡ true) where
 
   pub not_last : eqb (w 2) 1 ≡ false
   not_last = ne_eqb (w 2) 1 (λ e. omega (arith, numbers.more))
+
+  -- the place as it was rounded
+  pub rounded : (p : ℕ) → p ≡ w 1 / 16 * 16 → p ≡ w 1
+  rounded p e = omega (arith, e, numbers.place)
 
   -- the words one slot on
   pub step : words_of (along (fields_of ws)) ≡ stepped ((w 1 + 16) % 2 ^ 64) (w 2 - 1) ws

@@ -102,15 +102,15 @@ module _ (low high : ℕ) where
   abbrev port_clear : Bool
   port_clear = eqb (d0 % 0x100_0000) 0 && eqb d1 0 && eqb (d2 % 0x100_0000) 0 && eqb (d3 / 2 % 0x200) 0 && eqb (d3 / 0x1_0000 % 0x1_0000) 0
 
-  d1-whole : d1 / 1 % 2 ^ 32 ≡ d1
-  d1-whole = omega arith
+  d1_whole : d1 / 1 % 2 ^ 32 ≡ d1
+  d1_whole = omega arith
 
   pub port_12 : eqb code 1 ≡ false → (port_status_change_as trb).variant ≡ refused_with 12 0
   unfolding judge
   port_12 h = rw (at2, h)
 
   clear_is : eqb (d0 / 1 % 0x100_0000) 0 && (eqb (d1 / 1 % 2 ^ 32) 0 && (eqb (d2 / 1 % 0x100_0000) 0 && (eqb (d3 / 2 % 0x200) 0 && (eqb (d3 / 0x1_0000 % 0x1_0000) 0 && true)))) ≡ port_clear
-  clear_is = rw d1-whole (simp (div-one, and-true, ← and_assoc))
+  clear_is = rw d1_whole (simp (div-one, and-true, ← and_assoc))
 
   pub port_11 : eqb code 1 ≡ true → port_clear ≡ false → (port_status_change_as trb).variant ≡ refused_with 11 0
   unfolding judge

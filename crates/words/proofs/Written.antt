@@ -68,8 +68,8 @@ module _ (ws : List ℕ) (cycle : ℕ) where
   abbrev n : ℕ
   n = get_or ws 2 0 % 2 ^ 32
 
-  n-is : field_of ws 2 0 32 ≡ n
-  n-is = rw div-one
+  n_is : field_of ws 2 0 32 ≡ n
+  n_is = rw div-one
 
   pub unlisted : (f : CompletionCode → EventTrb) → code_in ws ≡ Coded.Unlisted → trb 0 12 ≡ written (bytes_from (coded (code_in ws) f) c)
   unlisted f e = rw e
@@ -77,7 +77,7 @@ module _ (ws : List ℕ) (cycle : ℕ) where
   module _ (k : CompletionCode) (e : code_in ws ≡ Coded.Listed k) where
     pub transfer_no : 2 ^ 24 ≤ n → trb 0 8 ≡ written (bytes_from (coded (code_in ws) (transfer_in ws)) c)
     unfolding valid
-    transfer_no h = rw e (sym (written_no (transfer_in ws k) c (rw n-is (le-ltb _ _ h))))
+    transfer_no h = rw e (sym (written_no (transfer_in ws k) c (rw n_is (le-ltb _ _ h))))
 
     pub command_low : (get_or ws 1 0 % 16 ≡ 0 → ⊥) → trb 0 8 ≡ written (bytes_from (coded (code_in ws) (command_completion_in ws)) c)
     unfolding valid
@@ -85,7 +85,7 @@ module _ (ws : List ℕ) (cycle : ℕ) where
 
     pub command_no : get_or ws 1 0 % 16 ≡ 0 → 2 ^ 24 ≤ n → trb 0 8 ≡ written (bytes_from (coded (code_in ws) (command_completion_in ws)) c)
     unfolding valid
-    command_no a h = rw e (sym (written_no (command_completion_in ws k) c (rw (n-is, div-one, eq-eqb _ _ a) (le-ltb _ _ h))))
+    command_no a h = rw e (sym (written_no (command_completion_in ws k) c (rw (n_is, div-one, eq-eqb _ _ a) (le-ltb _ _ h))))
 
     module _ (num : number_of k ≡ field_of ws 2 32 8) (p : get_or ws 1 0 < 2 ^ 64) (s : n < 2 ^ 24) where
       pub transfer_yes : trb (get_or ws 1 0) (n + field_of ws 2 32 8 * 2 ^ 24
@@ -94,18 +94,18 @@ module _ (ws : List ℕ) (cycle : ℕ) where
       unfolding valid event_dwords
       transfer_yes =
           rw e
-          (sym (written_yes (transfer_in ws k) c (p, omega arith, omega arith) (rw n-is (lt-ltb _ _ s))
+          (sym (written_yes (transfer_in ws k) c (p, omega arith, omega arith) (rw n_is (lt-ltb _ _ s))
           ∙ ap₂ trb (pointer (get_or ws 1 0) p)
-          (rw (num, flag_is cycle, flag_is (get_or ws 2 0 / 2 ^ 40), n-is) (transfer_sum n (field_of ws 2 32 8) (cycle % 2) (field_of ws 2 40 1) (field_of ws 2 48 8) (field_of ws 2 56 8)))))
+          (rw (num, flag_is cycle, flag_is (get_or ws 2 0 / 2 ^ 40), n_is) (transfer_sum n (field_of ws 2 32 8) (cycle % 2) (field_of ws 2 40 1) (field_of ws 2 48 8) (field_of ws 2 56 8)))))
 
       pub command_yes : get_or ws 1 0 % 16 ≡ 0 → trb (get_or ws 1 0) (n + field_of ws 2 32 8 * 2 ^ 24 + (cycle % 2 + 0x8400 + field_of ws 2 40 8 * 2 ^ 24) * 2 ^ 32)
           ≡ written (bytes_from (coded (code_in ws) (command_completion_in ws)) c)
       unfolding valid event_dwords
       command_yes a =
           rw e
-          (sym (written_yes (command_completion_in ws k) c (p, omega arith) (rw (n-is, div-one, eq-eqb _ _ a) (lt-ltb _ _ s))
+          (sym (written_yes (command_completion_in ws k) c (p, omega arith) (rw (n_is, div-one, eq-eqb _ _ a) (lt-ltb _ _ s))
           ∙ ap₂ trb (pointer (get_or ws 1 0) p)
-          (rw (num, flag_is cycle, n-is) (command_sum n (field_of ws 2 32 8) (cycle % 2) (field_of ws 2 40 8)))))
+          (rw (num, flag_is cycle, n_is) (command_sum n (field_of ws 2 32 8) (cycle % 2) (field_of ws 2 40 8)))))
 
   pub port_yes : trb (field_of ws 0 8 8 * 2 ^ 24) (0x100_0000 + (cycle % 2 + 0x8800) * 2 ^ 32) ≡ written (bytes_from (EventVariant.Event (port_status_change_in ws)) c)
   unfolding valid event_dwords number_of

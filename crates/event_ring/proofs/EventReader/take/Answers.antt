@@ -38,9 +38,6 @@ returns-then-cycle_bit-state c =
       no (is_fresh (window c.args.start c.args.mem.now) c.args.self.state _ _ r c.cycle_bit.ensures) c.if-cycle_bit-state.true,
     )
 
-pub next-moved-requires : goal.next-moved-requires
-next-moved-requires c = told c.ok.ensures c.if-not-ok.false
-
 pub returns-then-moved-ne0 : goal.returns-then-moved-ne0
 unfolding take judge
 returns-then-moved-ne0 c =

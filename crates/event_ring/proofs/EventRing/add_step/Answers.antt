@@ -44,9 +44,6 @@ returns-then-not-inside c =
     rw (told c.ok.ensures c.if-not-ok.false, eq-eqb _ _ c.if-report-ne0.false, told c.inside.ensures c.if-not-inside.true)
     c.refused-then-not-inside.ensures
 
-pub next-next-requires : goal.next-next-requires
-next-next-requires c = told c.ok.ensures c.if-not-ok.false
-
 pub returns-then-next-ne0 : goal.returns-then-next-ne0
 returns-then-next-ne0 c =
     stopped (window c.args.start c.args.mem.now) c.args.self c.args.report (told c.ok.ensures c.if-not-ok.false)
