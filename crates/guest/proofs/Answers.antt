@@ -1,58 +1,53 @@
 -- What the answers of this crate's functions say. Assumes nothing.
-use Rattle.std.proofs.Common.{◌≡◌, ℕ, Bool, true, false, [], ◌∷◌, replicate, refl, ap, arith}
+use Rattle.std.proofs.Common.{◌≡◌, ℕ, Bool, true, false, [], ◌∷◌, sym, refl, ◌∙◌, arith}
+use Rattle.std.specs.Prelude.{Result, Ok, Err}
 use Rattle.guest.specs.Judge.{judge}
-use Rattle.guest.specs.Memory.{Memory, inside, trb_at}
-use Rattle.guest.specs.Answers.{trb_read, no_slot, slot_of, slot_read}
-use Rattle.guest.specs.Fields.{dword, low_of, high_of}
-use Rattle.guest.specs.declared.TrbAnswer.{TrbAnswer}
-use Rattle.guest.specs.declared.SlotAnswer.{SlotAnswer}
+use Rattle.guest.specs.Memory.{Memory, inside}
+use Rattle.guest.specs.Refusals.{by_number}
+use Rattle.guest.specs.Answers.{touching}
+use Rattle.guest.specs.declared.refusal.Refusal.{Refusal}
+use Rattle.guest.specs.declared.refusal.Refusal.TheVariants.{Outside}
 
--- sixteen bytes that were read
-pub record Read (m : Memory) (a : ℕ) (r : TrbAnswer) : Type 0 where
-  pub within : inside m a 16 ≡ true
-  pub bytes : r.trb ≡ trb_at m a
+module _ (m : Memory) (a k : ℕ) where
+  abbrev picked : {A : Type 0} → A → Bool → Result A Refusal
+  picked x b = judge ((1, b) ∷ []) (λ n. Err (by_number n)) (Ok x)
 
-abbrev picked : Memory → ℕ → Bool → TrbAnswer
-picked m a b = judge ((1, b) ∷ []) (λ n. record { refusal = n; trb = replicate 16 0 }) (record { refusal = 0; trb = trb_at m a })
+  -- what a touch that was answered says
+  pub record Touched {A : Type 0} (x y : A) : Type 0 where
+    pub within : inside m a k ≡ true
+    pub is : y ≡ x
 
-pub read_yes : (m : Memory) (a : ℕ) (r : TrbAnswer) → r ≡ trb_read m a → r.refusal ≡ 0 → Read m a r
-unfolding judge
-read_yes m a r e h = go (inside m a 16) refl e
-  where
-    go : (b : Bool) → inside m a 16 ≡ b → r ≡ picked m a b → Read m a r
-    go true i p = record { within = i; bytes = ap (λ (x : TrbAnswer). x.trb) p }
-    go false i p = absurd (omega (arith, ap (λ (x : TrbAnswer). x.refusal) p))
+  pub touching_ok : {A : Type 0} (x y : A) → touching m a k x ≡ Ok y → Touched x y
+  unfolding judge
+  touching_ok {A = A} x y e = go (inside m a k) refl e
+    where
+      go : (b : Bool) → inside m a k ≡ b → picked x b ≡ Ok y → Touched x y
+      go true i p = record { within = i; is = grind arith }
+      go false i p = grind arith
 
-pub read_no : (m : Memory) (a : ℕ) (r : TrbAnswer) → r ≡ trb_read m a → (r.refusal ≡ 0 → ⊥) → inside m a 16 ≡ false
-unfolding judge
-read_no m a r e h = go (inside m a 16) refl e
-  where
-    go : (b : Bool) → inside m a 16 ≡ b → r ≡ picked m a b → inside m a 16 ≡ false
-    go true i p = absurd (h (ap (λ (x : TrbAnswer). x.refusal) p))
-    go false i p = i
+  -- and one that was refused
+  pub record Untouched (r : Refusal) : Type 0 where
+    pub without : inside m a k ≡ false
+    pub is : r ≡ Outside
 
--- and what is inside is read
-pub read_inside : (m : Memory) (a : ℕ) (r : TrbAnswer) → r ≡ trb_read m a → inside m a 16 ≡ true → r.trb ≡ trb_at m a
-unfolding judge
-read_inside m a r e i = ap (λ (x : TrbAnswer). x.trb) (rw i at e)
+  pub touching_err : {A : Type 0} (x : A) (r : Refusal) → touching m a k x ≡ Err r → Untouched r
+  unfolding judge by_number
+  touching_err x r e = go (inside m a k) refl e
+    where
+      go : (b : Bool) → inside m a k ≡ b → picked x b ≡ Err r → Untouched r
+      go true i p = grind arith
+      go false i p = record { without = i; is = grind arith }
 
--- the same as numbers
-pub record ReadSlot (m : Memory) (a : ℕ) (r : SlotAnswer) : Type 0 where
-  pub within : inside m a 16 ≡ true
-  pub d3 : r.d3 ≡ dword (trb_at m a) 3
-  pub low : r.low ≡ low_of (trb_at m a)
-  pub high : r.high ≡ high_of (trb_at m a)
+  -- so say what answers of a callee's answer: f makes of what was read what is answered
+  pub touch_given : {A B : Type 0} (f : A → B) (x y : A) {r : Result A Refusal} {z : B} → r ≡ touching m a k x → r ≡ Ok y → z ≡ f y
+      → Ok z ≡ touching m a k (f x)
+  unfolding judge
+  touch_given f x y e h g = let t = touching_ok x y (sym e ∙ h) in rw (t.within, g, t.is)
 
-pub slot_yes : (m : Memory) (a : ℕ) (r : SlotAnswer) → r ≡ slot_read m a → r.refusal ≡ 0 → ReadSlot m a r
-unfolding judge
-slot_yes m a r e h = go (inside m a 16) refl e
-  where
-    go : (b : Bool) → inside m a 16 ≡ b → r ≡ judge ((1, b) ∷ []) no_slot (slot_of (trb_at m a)) → ReadSlot m a r
-    go true i p =
-        record {
-          within = i;
-          d3 = ap (λ (x : SlotAnswer). x.d3) p;
-          low = ap (λ (x : SlotAnswer). x.low) p;
-          high = ap (λ (x : SlotAnswer). x.high) p;
-        }
-    go false i p = absurd (omega (arith, ap (λ (x : SlotAnswer). x.refusal) p))
+  pub touch_refused : {A B : Type 0} (x : A) {r : Result A Refusal} {n : Refusal} (z : B) → r ≡ touching m a k x → r ≡ Err n → Err n ≡ touching m a k z
+  unfolding judge by_number
+  touch_refused x z e h = let u = touching_err x _ (sym e ∙ h) in rw (u.without, u.is)
+
+  pub touch_inside : {A : Type 0} (x : A) → inside m a k ≡ true → touching m a k x ≡ Ok x
+  unfolding judge
+  touch_inside x h = rw h

@@ -1,5 +1,6 @@
 -- Laws of bytes in a list, each once, over the width. Assumes nothing.
-use Rattle.std.proofs.Common.{◌≡◌, ℕ, zero, suc, ◌+◌, ◌-◌, ◌*◌, ◌^◌, ◌<◌, ◌≤◌, ◌⊎◌, List, [], ◌∷◌, ◌++◌, length, get_or, take, drop, set, sym, refl, ap, ◌∙◌, ap₂, inl, inr, append_assoc, append-nil, add-zero, add_assoc, mul_assoc, suc-add, one-mul, zero-add, mul-add, one-add, arith, length-drop, length-take-le, get_or-drop, get_or-set_other, get_or-take, drop-drop, take_at, drop_at}
+use Rattle.std.proofs.Common.{◌≡◌, ℕ, zero, suc, ◌+◌, ◌-◌, ◌*◌, ◌^◌, ◌<◌, ◌≤◌, ◌⊎◌, List, [], ◌∷◌, ◌++◌, length, get_or, slice_index, take, drop, set, sym, refl, ap, ◌∙◌, ap₂, inl, inr, append_assoc, append-nil, add-zero, add_assoc, mul_assoc, suc-add, one-mul, zero-add, mul-add, one-add, arith, length-drop, length-take-le, get_or-drop, get_or-set_other, get_or-take, drop-drop, take_at, drop_at}
+use Rattle.std.specs.Int.{w16, w32, w64, from_le_bytes}
 use native.Mathlib.Nat.{add-sub_cancel_left, pow-zero, pow-succ'}
 use lib.Seq.{take-length, drop-length, sets, sets-eq, length-sets}
 use Rattle.guest.specs.Bytes.{le, part, write}
@@ -67,6 +68,38 @@ le_part zero m a n i h = refl
 le_part (suc k) m a n i h =
     ap₂ (λ (x y : ℕ). x + 256 * y) (part_byte m a n i (omega arith))
     (le_part k m a n (i + 1) (omega arith) ∙ ap (λ (x : ℕ). le m x k) (sym (add_assoc a i 1)))
+
+-- the library's numbers of two, four and eight bytes are those that `le` adds up
+two_sum : (l : List ℕ) → from_le_bytes w16 l ≡ le l 0 2
+unfolding le
+two_sum l =
+    let sum : from_le_bytes w16 l ≡ slice_index l 0 + slice_index l 1 * 256 ^ 1 = refl in
+    sum ∙ omega arith
+
+four_sum : (l : List ℕ) → from_le_bytes w32 l ≡ le l 0 4
+unfolding le
+four_sum l =
+    let sum : from_le_bytes w32 l ≡ slice_index l 0 + slice_index l 1 * 256 ^ 1 + slice_index l 2 * 256 ^ 2 + slice_index l 3 * 256 ^ 3 = refl in
+    sum ∙ omega arith
+
+eight_sum : (l : List ℕ) → from_le_bytes w64 l ≡ le l 0 8
+unfolding le
+eight_sum l =
+    let sum : from_le_bytes w64 l ≡ slice_index l 0 + slice_index l 1 * 256 ^ 1 + slice_index l 2 * 256 ^ 2 + slice_index l 3 * 256 ^ 3 + slice_index l 4 * 256 ^ 4 + slice_index l 5 * 256 ^ 5 + slice_index l 6 * 256 ^ 6 + slice_index l 7 * 256 ^ 7 = refl in
+    sum ∙ omega arith
+
+module _ (m : List ℕ) (a : ℕ) where
+  there : (k : ℕ) → le (part m a k) 0 k ≡ le m a k
+  there k = le_part k m a k 0 (omega arith) ∙ ap (λ (i : ℕ). le m i k) (add-zero a)
+
+  pub le_two : from_le_bytes w16 (part m a 2) ≡ le m a 2
+  le_two = two_sum (part m a 2) ∙ there 2
+
+  pub le_four : from_le_bytes w32 (part m a 4) ≡ le m a 4
+  le_four = four_sum (part m a 4) ∙ there 4
+
+  pub le_eight : from_le_bytes w64 (part m a 8) ≡ le m a 8
+  le_eight = eight_sum (part m a 8) ∙ there 8
 
 -- a write where it fits keeps the memory's length and every other byte, and is read back
 module _ (m : List ℕ) (a : ℕ) (v : List ℕ) (fits : a + length v ≤ length m) where

@@ -1,15 +1,15 @@
 -- A window that begins at 0 is guest memory as document 01 has it: a list of bytes, the first of which has the address 0. Its definitions
 -- stand here by themselves, each with a 0 to its name, and the window's are equal to them for every input. Assumes nothing.
-use Rattle.std.proofs.Common.{◌≡◌, ℕ, zero, suc, ◌+◌, ◌*◌, ◌^◌, Bool, true, false, ◌&&◌, leb, List, [], ◌∷◌, ◌++◌, length, get_or, take, drop, replicate, refl, ap, ◌∙◌, ap₂, arith, le-leb}
+use Rattle.std.proofs.Common.{◌≡◌, ℕ, zero, suc, ◌+◌, ◌*◌, ◌^◌, Bool, true, false, ◌&&◌, leb, List, [], ◌∷◌, ◌++◌, length, get_or, take, drop, refl, ap, ◌∙◌, ap₂, arith, le-leb}
 use native.Mathlib.Nat.{sub-zero}
 use Rattle.guest.specs.Judge.{judge}
 use Rattle.guest.specs.Bytes as bytes
 use Rattle.guest.specs.Memory.{Memory, window, inside, byte, le, part, write}
-use Rattle.guest.specs.Answers.{number_at, trb_read, no_slot, slot_of, slot_read, write_number, write_memory, offset_of, part_of}
-use Rattle.guest.specs.declared.Number.{Number}
-use Rattle.guest.specs.declared.Number.TheVariants.{Value, Refused}
-use Rattle.guest.specs.declared.TrbAnswer.{TrbAnswer}
-use Rattle.guest.specs.declared.SlotAnswer.{SlotAnswer}
+use Rattle.guest.specs.Answers.{touching, number_at, trb_read, slot_of, slot_read, write_number, write_memory, offset_of, part_of}
+use Rattle.guest.specs.Refusals.{by_number}
+use Rattle.guest.specs.declared.refusal.Refusal.{Refusal}
+use Rattle.guest.specs.declared.Slot.{Slot}
+use Rattle.std.specs.Prelude.{Result, Ok, Err}
 
 -- ---- document 01's memory
 
@@ -34,14 +34,17 @@ write₀ m a v = take a m ++ (v ++ drop (a + length v) m)
 abbrev pub judge₀ : {A : Type 0} → List ℕ → ℕ → ℕ → (ℕ → A) → A → A
 judge₀ m a k refuse answer = judge ((1, inside₀ m a k) ∷ []) refuse answer
 
-abbrev pub number_at₀ : List ℕ → ℕ → ℕ → Number
-number_at₀ m a k = judge₀ m a k Refused (Value (le₀ m a k))
+abbrev pub touching₀ : {A : Type 0} → List ℕ → ℕ → ℕ → A → Result A Refusal
+touching₀ m a k x = judge₀ m a k (λ n. Err (by_number n)) (Ok x)
 
-abbrev pub trb_read₀ : List ℕ → ℕ → TrbAnswer
-trb_read₀ m a = judge₀ m a 16 (λ n. record { refusal = n; trb = replicate 16 0 }) (record { refusal = 0; trb = part₀ m a 16 })
+abbrev pub number_at₀ : List ℕ → ℕ → ℕ → Result ℕ Refusal
+number_at₀ m a k = touching₀ m a k (le₀ m a k)
 
-abbrev pub slot_read₀ : List ℕ → ℕ → SlotAnswer
-slot_read₀ m a = judge₀ m a 16 no_slot (slot_of (part₀ m a 16))
+abbrev pub trb_read₀ : List ℕ → ℕ → Result (List ℕ) Refusal
+trb_read₀ m a = touching₀ m a 16 (part₀ m a 16)
+
+abbrev pub slot_read₀ : List ℕ → ℕ → Result Slot Refusal
+slot_read₀ m a = touching₀ m a 16 (slot_of (part₀ m a 16))
 
 -- the bytes themselves, none beside a refusal, and where they begin, 0 beside a refusal
 abbrev pub part_of₀ : List ℕ → ℕ → ℕ → List ℕ
@@ -82,16 +85,17 @@ module _ (l : List ℕ) (a : ℕ) where
   unfolding bytes.write
   write_zero v = rw (sub-zero a)
 
+  touching_zero : {A : Type 0} (k : ℕ) {x y : A} → x ≡ y → touching (window 0 l) a k x ≡ touching₀ l a k y
+  touching_zero {A = A} k e = ap₂ (λ (b : Bool) (x : A). judge {A = Result A Refusal} ((1, b) ∷ []) (λ n. Err (by_number n)) (Ok x)) (inside_zero k) e
+
   pub number_at_zero : (k : ℕ) → number_at (window 0 l) a k ≡ number_at₀ l a k
-  number_at_zero k = ap₂ (λ (b : Bool) (n : ℕ). judge ((1, b) ∷ []) Refused (Value n)) (inside_zero k) (le_zero k)
+  number_at_zero k = touching_zero k (le_zero k)
 
   pub trb_read_zero : trb_read (window 0 l) a ≡ trb_read₀ l a
-  trb_read_zero =
-      ap₂ (λ (b : Bool) (trb : List ℕ). judge {A = TrbAnswer} ((1, b) ∷ []) (λ n. record { refusal = n; trb = replicate 16 0 }) (record { refusal = 0; trb = trb }))
-      (inside_zero 16) (part_zero 16)
+  trb_read_zero = touching_zero 16 (part_zero 16)
 
   pub slot_read_zero : slot_read (window 0 l) a ≡ slot_read₀ l a
-  slot_read_zero = ap₂ (λ (b : Bool) (trb : List ℕ). judge ((1, b) ∷ []) no_slot (slot_of trb)) (inside_zero 16) (part_zero 16)
+  slot_read_zero = touching_zero 16 (ap slot_of (part_zero 16))
 
   pub part_of_zero : (k : ℕ) → part_of (window 0 l) a k ≡ part_of₀ l a k
   part_of_zero k = ap₂ (λ (b : Bool) (p : List ℕ). judge ((1, b) ∷ []) (λ (n : ℕ). []) p) (inside_zero k) (part_zero k)

@@ -4,6 +4,7 @@ pub mod Bytes
 pub mod Memory
 pub mod Fields
 pub mod Answers
+pub mod Numbers
 pub mod Faults
 pub mod FromZero
 pub mod Further
