@@ -12,10 +12,10 @@ use borrow.Author.Tests.{eqb-true, le-ltb, ne_eqb}
 use Rattle.codes.specs.Codes.{number_of, codes, find, code_of, class_of, number_of_coded, values_of_coded}
 use Rattle.codes.specs.declared.CompletionCode.{CompletionCode}
 use Rattle.codes.specs.declared.Class.{Class}
-use Rattle.codes.specs.declared.Coded.{Coded}
+use Rattle.std.specs.Prelude.{Option, Some, None}
 
 -- the code of a code's number is that code
-pub code_of_number : (k : CompletionCode) → code_of (number_of k) ≡ Coded.Listed k
+pub code_of_number : (k : CompletionCode) → code_of (number_of k) ≡ Some k
 unfolding number_of code_of
 code_of_number CompletionCode.Invalid = refl
 code_of_number CompletionCode.Success = refl
@@ -55,17 +55,17 @@ code_of_number CompletionCode.SecondaryBandwidthError = refl
 code_of_number CompletionCode.SplitTransactionError = refl
 
 -- one step of a search: the first code has the number n, or the rest is searched
-step : (b : Bool) (j k : CompletionCode) (n : ℕ) (rest : Coded) → eqb n (number_of j) ≡ b → cond b (Coded.Listed j) rest ≡ Coded.Listed k →
-    (rest ≡ Coded.Listed k → number_of k ≡ n) → number_of k ≡ n
+step : (b : Bool) (j k : CompletionCode) (n : ℕ) (rest : Option CompletionCode) → eqb n (number_of j) ≡ b → cond b (Some j) rest ≡ Some k →
+    (rest ≡ Some k → number_of k ≡ n) → number_of k ≡ n
 step true j k n rest q e onward = cc (eqb-true n (number_of j) q)
 step false j k n rest q e onward = onward e
 
-found : (ks : List CompletionCode) (n : ℕ) (k : CompletionCode) → find ks n ≡ Coded.Listed k → number_of k ≡ n
+found : (ks : List CompletionCode) (n : ℕ) (k : CompletionCode) → find ks n ≡ Some k → number_of k ≡ n
 found [] n k e = let z : ◌≡◌ {A = ℕ} 0 1 = cc in omega arith
 found (j ∷ ks) n k e = step (eqb n (number_of j)) j k n (find ks n) refl e (found ks n k)
 
 -- the number of a byte's code is that byte
-pub number_of_code : (n : ℕ) (k : CompletionCode) → code_of n ≡ Coded.Listed k → number_of k ≡ n
+pub number_of_code : (n : ℕ) (k : CompletionCode) → code_of n ≡ Some k → number_of k ≡ n
 unfolding code_of
 number_of_code n k e = found codes n k e
 
@@ -82,7 +82,7 @@ small : List CompletionCode → Bool
 small [] = true
 small (k ∷ ks) = ltb (number_of k) 37 && small ks
 
-not_found : (ks : List CompletionCode) (n : ℕ) → T (small ks) → 37 ≤ n → find ks n ≡ Coded.Unlisted
+not_found : (ks : List CompletionCode) (n : ℕ) → T (small ks) → 37 ≤ n → find ks n ≡ None
 unfolding small
 not_found [] n t h = refl
 not_found (k ∷ ks) n t h =
@@ -90,7 +90,7 @@ not_found (k ∷ ks) n t h =
     (not_found ks n (right (ltb (number_of k) 37) (small ks) t) h)
 
 -- above 36 no code is listed
-above_36 : (n : ℕ) → 37 ≤ n → code_of n ≡ Coded.Unlisted
+above_36 : (n : ℕ) → 37 ≤ n → code_of n ≡ None
 unfolding number_of code_of small
 above_36 n h = not_found codes n tt h
 
@@ -108,9 +108,9 @@ is_listed Class.Reserved = false
 is_listed Class.VendorError = false
 is_listed Class.VendorInfo = false
 
-abbrev pub is_code : Coded → Bool
-is_code (Coded.Listed k) = true
-is_code Coded.Unlisted = false
+abbrev pub is_code : Option CompletionCode → Bool
+is_code (Some k) = true
+is_code None = false
 
 -- whether a test passes at each number below m
 below : (ℕ → Bool) → ℕ → Bool
@@ -146,17 +146,17 @@ listed_exactly n = by (dec_lt n 37)
         (not_listed (ltb n 192) (ltb n 224))
 
 -- what `code_of` answers, by the class of the byte: a listed byte is its code's number, and any other gives refusal 12
-pub record OfCode (n : ℕ) (x : Coded) : Type 0 where
+pub record OfCode (n : ℕ) (x : Option CompletionCode) : Type 0 where
   pub number : number_of_coded x ≡ cond (is_listed (class_of n)) 0 12
   pub values : values_of_coded x ≡ cond (is_listed (class_of n)) (n ∷ []) []
 
 pub code_shown : (n : ℕ) → OfCode n (code_of n)
 code_shown n = by (code_of n) refl
   where
-    by : (x : Coded) → code_of n ≡ x → OfCode n x
-    by (Coded.Listed k) e =
+    by : (x : Option CompletionCode) → code_of n ≡ x → OfCode n x
+    by (Some k) e =
         let c : is_listed (class_of n) ≡ true = listed_exactly n ∙ ap is_code e in
         record { number = rw c; values = rw (c, number_of_code n k e) }
-    by Coded.Unlisted e =
+    by None e =
         let c : is_listed (class_of n) ≡ false = listed_exactly n ∙ ap is_code e in
         record { number = rw c; values = rw c }

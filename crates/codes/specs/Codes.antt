@@ -1,5 +1,5 @@
 -- The completion codes and the classes of a code byte, xHCI 1.2 table 6-90.
-use Rattle.std.specs.Prelude.{ℕ, cond, List, [], ◌∷◌, ltb, eqb}
+use Rattle.std.specs.Prelude.{ℕ, cond, List, [], ◌∷◌, ltb, eqb, Option, Some, None}
 use Rattle.codes.specs.declared.CompletionCode.{CompletionCode}
 use Rattle.codes.specs.declared.CompletionCode.TheVariants as code
 use code.{Invalid, Success, DataBufferError, BabbleDetectedError, UsbTransactionError, TrbError, StallError, ResourceError}
@@ -9,7 +9,6 @@ use code.{NoPingResponseError, EventRingFullError, IncompatibleDeviceError, Miss
 use code.{CommandAborted, Stopped, StoppedLengthInvalid, StoppedShortedPacket, MaxExitLatencyTooLargeError, IsochBufferOverrun}
 use code.{EventLostError, UndefinedError, InvalidStreamIdError, SecondaryBandwidthError, SplitTransactionError}
 use Rattle.codes.specs.declared.Class.{Class}
-use Rattle.codes.specs.declared.Coded.{Coded}
 
 -- the number of each listed code
 unfoldable pub number_of : CompletionCode → ℕ
@@ -62,12 +61,12 @@ codes =
     SecondaryBandwidthError ∷ SplitTransactionError ∷ []
 
 -- the code of a list that has the number n
-abbrev pub find : List CompletionCode → ℕ → Coded
-find [] n = Coded.Unlisted
-find (k ∷ ks) n = cond (eqb n (number_of k)) (Coded.Listed k) (find ks n)
+abbrev pub find : List CompletionCode → ℕ → Option CompletionCode
+find [] n = None
+find (k ∷ ks) n = cond (eqb n (number_of k)) (Some k) (find ks n)
 
 -- the listed code that a byte n stands for
-unfoldable pub code_of : ℕ → Coded
+unfoldable pub code_of : ℕ → Option CompletionCode
 code_of n = find codes n
 
 -- the class of a byte n: listed are 0 to 36 without 30; reserved 30 and 37 to 191; vendor errors 192 to 223; vendor information 224 to 255
@@ -87,10 +86,10 @@ number_of_class Class.VendorError = 2
 number_of_class Class.VendorInfo = 3
 
 -- the number of an answer, 0 or the refusal 12 of a code that is not listed, and its value, the code's number
-abbrev pub number_of_coded : Coded → ℕ
-number_of_coded (Coded.Listed k) = 0
-number_of_coded Coded.Unlisted = 12
+abbrev pub number_of_coded : Option CompletionCode → ℕ
+number_of_coded (Some k) = 0
+number_of_coded None = 12
 
-abbrev pub values_of_coded : Coded → List ℕ
-values_of_coded (Coded.Listed k) = number_of k ∷ []
-values_of_coded Coded.Unlisted = []
+abbrev pub values_of_coded : Option CompletionCode → List ℕ
+values_of_coded (Some k) = number_of k ∷ []
+values_of_coded None = []
