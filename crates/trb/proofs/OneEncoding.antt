@@ -13,7 +13,6 @@ use Rattle.guest.specs.Refusals.{event}
 use Rattle.guest.specs.Judge.{judge}
 use Rattle.guest.specs.Fields.{bits, dword, field, dwords_of, bytes_of, bytes_of_dwords}
 use Rattle.guest.specs.declared.Dwords.{Dwords}
-use Rattle.guest.specs.declared.TrbAnswer.{TrbAnswer}
 use Rattle.guest.proofs.Tests.{both}
 use Rattle.guest.proofs.Judge.{judge_by}
 use Rattle.guest.proofs.Bytes.{Bytes}
@@ -22,14 +21,13 @@ use Rattle.codes.specs.Codes.{number_of}
 use Rattle.codes.specs.Types as types
 use Rattle.codes.specs.declared.CompletionCode.{CompletionCode}
 use Rattle.codes.proofs.Codes.{code_of_number, number_lt}
-use Rattle.trb.specs.Trb.{type_of, cycle_of, pointer_of, flag_of, bit}
+use Rattle.trb.specs.Trb.{type_of, cycle_of, pointer_of, flag_of, bit, Parsed}
 use Rattle.trb.specs.Events.{pack, in_code, of_code, in_transfer, of_transfer, transfer_dwords, in_command_completion, of_command_completion, command_completion_dwords, in_port_status_change, of_port_status_change, port_status_change_dwords, event_dwords, event_bytes, valid, refused, accepted, bytes_answered, clear, reserved_in_transfer, reserved_in_command_completion, reserved_in_port_status_change, code_in, is_listed, listed_in, read_tests, answered, transfer_as, command_completion_as, port_status_change_as, event_of, Typed}
 use Rattle.trb.specs.declared.event.TransferEventTrbData.{TransferEventTrbData}
 use Rattle.trb.specs.declared.event.CommandCompletionEventTrbData.{CommandCompletionEventTrbData}
 use Rattle.trb.specs.declared.event.PortStatusChangeEventTrbData.{PortStatusChangeEventTrbData}
 use Rattle.trb.specs.declared.event.EventTrb.{EventTrb}
-use Rattle.trb.specs.declared.event.EventVariant.{EventVariant}
-use Rattle.trb.specs.declared.event.ParsedEvent.{ParsedEvent}
+use Rattle.std.specs.Prelude.{Ok, Err}
 use Rattle.trb.proofs.Raw.{flag_is}
 use Rattle.trb.proofs.Pack.{whole, Packed, packed}
 use Rattle.trb.proofs.Rows.{by_type}
@@ -58,12 +56,9 @@ zeros trb ((k, lo, w) ∷ fs) h =
 -- ---- what is read was written
 
 -- a reading is a refusal, or an event that is valid and whose dwords, with the cycle bit read, are those that were read
-abbrev Sound : List ℕ → ParsedEvent → Type 0
-Sound trb p = IsSoundIn p.variant
-  where
-    IsSoundIn : EventVariant → Type 0
-    IsSoundIn (EventVariant.Event e) = Typed e × (valid e ≡ true) × (event_dwords e (cycle_of trb) ≡ dwords_of trb)
-    IsSoundIn (EventVariant.Unrecognized e) = Unit
+abbrev Sound : List ℕ → Parsed EventTrb → Type 0
+Sound trb (Ok e) = Typed e × (valid e ≡ true) × (event_dwords e (cycle_of trb) ≡ dwords_of trb)
+Sound trb (Err u) = Unit
 
 same_dwords : (d : Dwords) {a b c e : ℕ} → a ≡ d.d0 → b ≡ d.d1 → c ≡ d.d2 → e ≡ d.d3 → record { d0 = a; d1 = b; d2 = c; d3 = e } ≡ d
 same_dwords d p q r s = rw (p, q, r, s)
@@ -261,15 +256,15 @@ unfolding judge bytes_answered
 accepted_exactly e c trb = by (valid e)
   where
     by : (b : Bool) → (judge ((event, b) ∷ []) refused (accepted (event_bytes e c)) ≡ accepted trb) ↔ ((b ≡ true) × (event_bytes e c ≡ trb))
-    by true = (λ h. (refl, ap (λ (r : TrbAnswer). r.trb) h), λ h. ap accepted h.1)
-    by false = (λ h. absurd (omega (arith, ap (λ (r : TrbAnswer). r.refusal) h)), λ h. absurd (false≢true h.0))
+    by true = (λ h. (refl, grind arith), λ h. ap accepted h.1)
+    by false = (λ h. absurd (grind arith), λ h. absurd (false≢true h.0))
 
 pub refused_exactly : (e : EventTrb) (c : Bool) → (bytes_answered e c ≡ refused event) ↔ (valid e ≡ false)
 unfolding judge bytes_answered
 refused_exactly e c = by (valid e)
   where
     by : (b : Bool) → (judge ((event, b) ∷ []) refused (accepted (event_bytes e c)) ≡ refused event) ↔ (b ≡ false)
-    by true = (λ h. absurd (omega (arith, ap (λ (r : TrbAnswer). r.refusal) h)), λ h. absurd (false≢true (sym h)))
+    by true = (λ h. absurd (grind arith), λ h. absurd (false≢true (sym h)))
     by false = (λ h. refl, λ h. refl)
 
 -- ---- the statements
@@ -294,15 +289,14 @@ cycle_after_write e c trb w =
 -- so no sixteen bytes are written for two events, or for two cycle bits
 pub written_once : {e f : EventTrb} {c d : Bool} {trb : List ℕ} → Written e c trb → Written f d trb → (e ≡ f) × (c ≡ d)
 written_once {e} {f} {c} {d} {trb} w v =
-    let read : answered e ≡ answered f = sym (read_after_write e c trb w) ∙ read_after_write f d trb v in
-    let event : EventVariant.Event e ≡ EventVariant.Event f = ap (λ (p : ParsedEvent). p.variant) read in (
+    let read : answered e ≡ answered f = sym (read_after_write e c trb w) ∙ read_after_write f d trb v in (
       cc,
       sym (cycle_after_write e c trb w) ∙ cycle_after_write f d trb v,
     )
 
 -- what is read was written: sixteen bytes are read as the event e exactly if they are written for it, with the cycle bit that stands there
 pub reads_exactly : (trb : List ℕ) (e : EventTrb) → Bytes trb → length trb ≡ 16
-    → ((event_of trb).variant ≡ EventVariant.Event e) ↔ Written e (cycle_of trb) trb
+    → (event_of trb ≡ answered e) ↔ Written e (cycle_of trb) trb
 reads_exactly trb e b n = (
   λ r.
       let s = rw r at (sound trb (split_sized trb b)) in
@@ -310,5 +304,5 @@ reads_exactly trb e b n = (
         typed = s.0;
         bytes = (accepted_exactly e (cycle_of trb) trb).1 (s.1, ap bytes_of_dwords s.2 ∙ join_split trb b n);
       },
-  λ w. ap (λ (p : ParsedEvent). p.variant) (read_after_write e (cycle_of trb) trb w),
+  λ w. read_after_write e (cycle_of trb) trb w,
 )

@@ -7,20 +7,19 @@ use Prim.Native.Nat.{ℕ}
 use native.Mathlib.Omega.{arith}
 use borrow.Author.Tests.{eqb-true}
 use lib.Dec.{eqb}
-use Rattle.guest.specs.Refusals.{reserved, code}
+use Rattle.guest.specs.Refusals.{reserved, code, by_number}
 use Rattle.guest.specs.Judge.{Tests, judge, refusal_of}
 use Rattle.guest.specs.Fields.{field}
-use Rattle.trb.specs.Trb.{type_of, pointer_of, aligned_of, ◌to◌, one_of, raw_shown}
+use Rattle.trb.specs.Trb.{type_of, pointer_of, aligned_of, ◌to◌, one_of, raw_shown, Parsed, unrecognized, number_of, raw_of}
 use Rattle.trb.specs.Links as links
 use Rattle.trb.specs.Commands as commands
 use Rattle.trb.specs.Transfers as transfers
 use Rattle.trb.specs.Events as events
-use Rattle.trb.specs.declared.link.LinkOrOther.{LinkOrOther}
+use Rattle.std.specs.Prelude.{Option}
+use Rattle.trb.specs.declared.link.LinkTrb.{LinkTrb}
 use Rattle.trb.specs.declared.command.CommandTrbVariant.{CommandTrbVariant}
-use Rattle.trb.specs.declared.command.ParsedCommand.{ParsedCommand}
-use Rattle.trb.specs.declared.transfer.ParsedTransfer.{ParsedTransfer}
+use Rattle.trb.specs.declared.transfer.TransferTrbVariant.{TransferTrbVariant}
 use Rattle.trb.specs.declared.event.EventTrb.{EventTrb}
-use Rattle.trb.specs.declared.event.ParsedEvent.{ParsedEvent}
 use Rattle.trb.proofs.Raw.{flag_is}
 use Rattle.trb.proofs.Rows.{by_row, by_type}
 use Rattle.trb.proofs.Coded.{listed_number}
@@ -38,24 +37,24 @@ whole_pointer trb h = omega (arith, eqb-true (field trb 0 0 4) 0 h)
 
 -- ---- commands
 
-pub record OfCommand (trb : List ℕ) (p : ParsedCommand) : Type 0 where
-  pub number : commands.number_of p.variant ≡ refusal_of (commands.command_tests trb)
-  pub values : commands.values_of p.variant ≡ commands.command_values trb
-  pub raw : p.raw ≡ raw_shown (commands.command_tests trb) trb
+pub record OfCommand (trb : List ℕ) (p : Parsed CommandTrbVariant) : Type 0 where
+  pub number : number_of p ≡ refusal_of (commands.command_tests trb)
+  pub values : commands.values_of p ≡ commands.command_values trb
+  pub raw : raw_of p ≡ raw_shown (commands.command_tests trb) trb
 
 module _ (trb : List ℕ) where
-  of_command : (p : ParsedCommand)
-      → ◌≡◌ {A = Answer} (commands.number_of p.variant, commands.values_of p.variant, p.raw) (said trb (commands.command_tests trb) (commands.command_values trb))
+  of_command : (p : Parsed CommandTrbVariant)
+      → ◌≡◌ {A = Answer} (number_of p, commands.values_of p, raw_of p) (said trb (commands.command_tests trb) (commands.command_values trb))
       → OfCommand trb p
   of_command p e = record { number = ap (λ (a : Answer). a.0) e; values = ap (λ (a : Answer). a.1) e; raw = ap (λ (a : Answer). a.2) e }
 
   -- types 11 to 13, by the low four bits of the pointer
   aligned : (v : CommandTrbVariant) → (eqb (field trb 0 0 4) 0 ≡ true → OfCommand trb (commands.answered v))
-      → (eqb (field trb 0 0 4) 0 ≡ false → OfCommand trb (commands.unrecognized reserved 0 trb)) → OfCommand trb (commands.aligned trb v)
-  aligned v = by_row (OfCommand trb) (eqb (field trb 0 0 4) 0) (commands.answered v) (commands.unrecognized reserved 0 trb)
+      → (eqb (field trb 0 0 4) 0 ≡ false → OfCommand trb (unrecognized reserved 0 trb)) → OfCommand trb (commands.aligned trb v)
+  aligned v = by_row (OfCommand trb) (eqb (field trb 0 0 4) 0) (commands.answered v) (unrecognized reserved 0 trb)
 
   pub command_shown : OfCommand trb (commands.command_of trb)
-  unfolding judge commands.command_of
+  unfolding judge by_number commands.command_of
   command_shown =
       by_type (OfCommand trb) trb 9 _ _ (λ e. of_command _ (rw e)) (λ n9.
       by_type (OfCommand trb) trb 10 _ _ (λ e. of_command _ (rw e)) (λ n10.
@@ -73,19 +72,19 @@ module _ (trb : List ℕ) where
 
 -- ---- transfers
 
-pub record OfTransfer (trb : List ℕ) (p : ParsedTransfer) : Type 0 where
-  pub number : transfers.number_of p.variant ≡ refusal_of (transfers.transfer_tests trb)
-  pub values : transfers.values_of p.variant ≡ transfers.transfer_values trb
-  pub raw : p.raw ≡ raw_shown (transfers.transfer_tests trb) trb
+pub record OfTransfer (trb : List ℕ) (p : Parsed TransferTrbVariant) : Type 0 where
+  pub number : number_of p ≡ refusal_of (transfers.transfer_tests trb)
+  pub values : transfers.values_of p ≡ transfers.transfer_values trb
+  pub raw : raw_of p ≡ raw_shown (transfers.transfer_tests trb) trb
 
 module _ (trb : List ℕ) where
-  of_transfer_lem : (p : ParsedTransfer)
-      → ◌≡◌ {A = Answer} (transfers.number_of p.variant, transfers.values_of p.variant, p.raw) (said trb (transfers.transfer_tests trb) (transfers.transfer_values trb))
+  of_transfer_lem : (p : Parsed TransferTrbVariant)
+      → ◌≡◌ {A = Answer} (number_of p, transfers.values_of p, raw_of p) (said trb (transfers.transfer_tests trb) (transfers.transfer_values trb))
       → OfTransfer trb p
   of_transfer_lem p e = record { number = ap (λ (a : Answer). a.0) e; values = ap (λ (a : Answer). a.1) e; raw = ap (λ (a : Answer). a.2) e }
 
   pub transfer_shown : OfTransfer trb (transfers.transfer_of trb)
-  unfolding judge transfers.transfer_of
+  unfolding judge by_number transfers.transfer_of
   transfer_shown =
       by_type (OfTransfer trb) trb 1 _ _ (λ e. of_transfer_lem _ (rw e (simp flag_is))) (λ n1.
       by_type (OfTransfer trb) trb 2 _ _ (λ e. of_transfer_lem _ (rw e (simp flag_is))) (λ n2.
@@ -98,29 +97,29 @@ module _ (trb : List ℕ) where
 
 -- ---- events
 
-pub record OfEvent (trb : List ℕ) (p : ParsedEvent) : Type 0 where
-  pub number : events.number_of_variant p.variant ≡ refusal_of (events.decoder_tests trb)
-  pub values : events.values_of_variant p.variant ≡ events.decoder_values trb
-  pub raw : p.raw ≡ raw_shown (events.decoder_tests trb) trb
+pub record OfEvent (trb : List ℕ) (p : Parsed EventTrb) : Type 0 where
+  pub number : number_of p ≡ refusal_of (events.decoder_tests trb)
+  pub values : events.values_of p ≡ events.decoder_values trb
+  pub raw : raw_of p ≡ raw_shown (events.decoder_tests trb) trb
 
 module _ (trb : List ℕ) where
-  of_event_lem : (p : ParsedEvent)
-      → ◌≡◌ {A = Answer} (events.number_of_variant p.variant, events.values_of_variant p.variant, p.raw) (said trb (events.decoder_tests trb) (events.decoder_values trb))
+  of_event_lem : (p : Parsed EventTrb)
+      → ◌≡◌ {A = Answer} (number_of p, events.values_of p, raw_of p) (said trb (events.decoder_tests trb) (events.decoder_values trb))
       → OfEvent trb p
   of_event_lem p e = record { number = ap (λ (a : Answer). a.0) e; values = ap (λ (a : Answer). a.1) e; raw = ap (λ (a : Answer). a.2) e }
 
   -- an event, or refusals 12 and 11
   read : (coded zeros : Bool) (e : EventTrb) → (coded ≡ true → zeros ≡ true → OfEvent trb (events.answered e))
-      → (coded ≡ false → OfEvent trb (events.unrecognized code 0 trb))
-      → (coded ≡ true → zeros ≡ false → OfEvent trb (events.unrecognized reserved 0 trb))
-      → OfEvent trb (judge (events.read_tests coded zeros) (λ n. events.unrecognized n 0 trb) (events.answered e))
+      → (coded ≡ false → OfEvent trb (unrecognized code 0 trb))
+      → (coded ≡ true → zeros ≡ false → OfEvent trb (unrecognized reserved 0 trb))
+      → OfEvent trb (judge (events.read_tests coded zeros) (λ n. unrecognized n 0 trb) (events.answered e))
   unfolding judge
   read true true e f g h = f refl refl
   read true false e f g h = h refl refl
   read false zeros e f g h = g refl
 
   pub event_shown : OfEvent trb (events.event_of trb)
-  unfolding judge events.event_of
+  unfolding judge by_number events.event_of
   event_shown =
       by_type (OfEvent trb) trb 32 _ _ (λ e.
       read (events.is_listed (events.code_in trb)) (events.clear trb events.reserved_in_transfer) _
@@ -135,7 +134,7 @@ module _ (trb : List ℕ) where
 
 -- ---- links
 
-pub record OfLink (trb : List ℕ) (l : LinkOrOther) : Type 0 where
+pub record OfLink (trb : List ℕ) (l : Option LinkTrb) : Type 0 where
   pub number : links.number_of l ≡ 0
   pub values : links.values_of l ≡ links.link_values trb
 

@@ -1,32 +1,28 @@
 -- Command TRBs, xHCI 6.4.3. Dword 3 has the slot id in bits 31:24 and the endpoint id in bits 20:16; types 11 to 13 have a pointer
 -- to an input context, whose low four bits must be 0 (refusal 11), in dwords 0 and 1.
-use Rattle.std.specs.Prelude.{ℕ, List, [], ◌∷◌, ◌++◌, not, ◌||◌, replicate, eqb}
+use Rattle.std.specs.Prelude.{ℕ, List, [], ◌∷◌, ◌++◌, not, ◌||◌, eqb, Ok}
 use Rattle.guest.specs.Refusals.{optional, type, reserved}
 use Rattle.guest.specs.Judge.{Tests}
 use Rattle.guest.specs.Fields.{field}
 use Rattle.codes.specs.Types as types
-use Rattle.trb.specs.Trb.{type_of, pointer_of, aligned_of, flag_of, bit, when, ◌or◌, ◌to◌, one_of, values_shown}
+use Rattle.trb.specs.Trb.{type_of, pointer_of, aligned_of, flag_of, Parsed, unrecognized, values_by, bit, when, ◌or◌, ◌to◌, one_of, values_shown}
 use Rattle.trb.specs.declared.command.CommandTrbVariant.{CommandTrbVariant}
-use Rattle.trb.specs.declared.command.ParsedCommand.{ParsedCommand}
 
-abbrev pub answered : CommandTrbVariant → ParsedCommand
-answered v = record { variant = v; raw = replicate 16 0 }
-
-abbrev pub unrecognized : ℕ → ℕ → List ℕ → ParsedCommand
-unrecognized n t trb = record { variant = CommandTrbVariant.Unrecognized (record { number = n; trb_type = t }); raw = trb }
+abbrev pub answered : CommandTrbVariant → Parsed CommandTrbVariant
+answered v = Ok v
 
 -- refusal 11 where the low four bits of the pointer are not 0
-abbrev pub aligned : List ℕ → CommandTrbVariant → ParsedCommand
+abbrev pub aligned : List ℕ → CommandTrbVariant → Parsed CommandTrbVariant
 aligned trb v = when (eqb (field trb 0 0 4) 0) (answered v) or unrecognized reserved 0 trb
 
 -- ---- a row for each type
 
 -- 6.4.3.3
-abbrev pub disable_slot_as : List ℕ → ParsedCommand
+abbrev pub disable_slot_as : List ℕ → Parsed CommandTrbVariant
 disable_slot_as trb = answered (CommandTrbVariant.DisableSlot (record { slot_id = field trb 3 24 8 }))
 
 -- 6.4.3.4: block set address request in bit 9 of dword 3
-abbrev pub address_device_as : List ℕ → ParsedCommand
+abbrev pub address_device_as : List ℕ → Parsed CommandTrbVariant
 address_device_as trb =
     aligned trb (CommandTrbVariant.AddressDevice (record {
       input_context_pointer = aligned_of trb;
@@ -35,7 +31,7 @@ address_device_as trb =
     }))
 
 -- 6.4.3.5: deconfigure in bit 9 of dword 3
-abbrev pub configure_endpoint_as : List ℕ → ParsedCommand
+abbrev pub configure_endpoint_as : List ℕ → Parsed CommandTrbVariant
 configure_endpoint_as trb =
     aligned trb (CommandTrbVariant.ConfigureEndpoint (record {
       input_context_pointer = aligned_of trb;
@@ -44,7 +40,7 @@ configure_endpoint_as trb =
     }))
 
 -- 6.4.3.6
-abbrev pub evaluate_context_as : List ℕ → ParsedCommand
+abbrev pub evaluate_context_as : List ℕ → Parsed CommandTrbVariant
 evaluate_context_as trb =
     aligned trb (CommandTrbVariant.EvaluateContext (record {
       input_context_pointer = aligned_of trb;
@@ -52,15 +48,15 @@ evaluate_context_as trb =
     }))
 
 -- 6.4.3.7
-abbrev pub reset_endpoint_as : List ℕ → ParsedCommand
+abbrev pub reset_endpoint_as : List ℕ → Parsed CommandTrbVariant
 reset_endpoint_as trb = answered (CommandTrbVariant.ResetEndpoint (record { slot_id = field trb 3 24 8; endpoint_id = field trb 3 16 5 }))
 
 -- 6.4.3.8
-abbrev pub stop_endpoint_as : List ℕ → ParsedCommand
+abbrev pub stop_endpoint_as : List ℕ → Parsed CommandTrbVariant
 stop_endpoint_as trb = answered (CommandTrbVariant.StopEndpoint (record { endpoint_id = field trb 3 16 5; slot_id = field trb 3 24 8 }))
 
 -- 6.4.3.9: dword 0 has the dequeue cycle state in bit 0 and the stream context type in bits 3:1; the stream id is bits 31:16 of dword 2
-abbrev pub set_tr_dequeue_pointer_as : List ℕ → ParsedCommand
+abbrev pub set_tr_dequeue_pointer_as : List ℕ → Parsed CommandTrbVariant
 set_tr_dequeue_pointer_as trb =
     answered (CommandTrbVariant.SetTrDequeuePointer (record {
       dequeue_cycle_state = flag_of trb 0 0;
@@ -72,7 +68,7 @@ set_tr_dequeue_pointer_as trb =
     }))
 
 -- 6.4.3.10
-abbrev pub reset_device_as : List ℕ → ParsedCommand
+abbrev pub reset_device_as : List ℕ → Parsed CommandTrbVariant
 reset_device_as trb = answered (CommandTrbVariant.ResetDevice (record { slot_id = field trb 3 24 8 }))
 
 -- optional commands (refusal 9)
@@ -80,7 +76,7 @@ abbrev pub optionals : List ℕ
 optionals = types.force_event ∷ types.negotiate_bandwidth ∷ types.set_latency_tolerance_value ∷ types.get_port_bandwidth ∷ []
 
 -- the rows by type, table 6-91; any other number is no command's
-unfoldable pub command_of : List ℕ → ParsedCommand
+unfoldable pub command_of : List ℕ → Parsed CommandTrbVariant
 command_of trb =
     let t = type_of trb in
     when (eqb t types.enable_slot) (answered CommandTrbVariant.EnableSlot) or
@@ -97,39 +93,27 @@ command_of trb =
     when (eqb t types.no_op_command) (answered CommandTrbVariant.NoOp) or
     unrecognized type t trb
 
--- ---- document 01's number of an answer, 0 where nothing is refused, and its values: the type, then the fields
+-- ---- document 01's values of an answer: the type, then the fields
 
-abbrev pub number_of : CommandTrbVariant → ℕ
-number_of CommandTrbVariant.NoOp = 0
-number_of CommandTrbVariant.EnableSlot = 0
-number_of (CommandTrbVariant.DisableSlot d) = 0
-number_of (CommandTrbVariant.AddressDevice d) = 0
-number_of (CommandTrbVariant.ConfigureEndpoint d) = 0
-number_of (CommandTrbVariant.EvaluateContext d) = 0
-number_of (CommandTrbVariant.ResetEndpoint d) = 0
-number_of (CommandTrbVariant.StopEndpoint d) = 0
-number_of (CommandTrbVariant.SetTrDequeuePointer d) = 0
-number_of (CommandTrbVariant.ResetDevice d) = 0
-number_of CommandTrbVariant.ForceHeader = 0
-number_of (CommandTrbVariant.Unrecognized e) = e.number
-
-abbrev pub values_of : CommandTrbVariant → List ℕ
-values_of CommandTrbVariant.NoOp = types.no_op_command ∷ []
-values_of CommandTrbVariant.EnableSlot = types.enable_slot ∷ []
-values_of (CommandTrbVariant.DisableSlot d) = types.disable_slot ∷ d.slot_id ∷ []
-values_of (CommandTrbVariant.AddressDevice d) =
+abbrev pub values_in : CommandTrbVariant → List ℕ
+values_in CommandTrbVariant.NoOp = types.no_op_command ∷ []
+values_in CommandTrbVariant.EnableSlot = types.enable_slot ∷ []
+values_in (CommandTrbVariant.DisableSlot d) = types.disable_slot ∷ d.slot_id ∷ []
+values_in (CommandTrbVariant.AddressDevice d) =
     types.address_device ∷ d.input_context_pointer ∷ bit d.block_set_address_request ∷ d.slot_id ∷ []
-values_of (CommandTrbVariant.ConfigureEndpoint d) =
+values_in (CommandTrbVariant.ConfigureEndpoint d) =
     types.configure_endpoint ∷ d.input_context_pointer ∷ bit d.deconfigure ∷ d.slot_id ∷ []
-values_of (CommandTrbVariant.EvaluateContext d) = types.evaluate_context ∷ d.input_context_pointer ∷ d.slot_id ∷ []
-values_of (CommandTrbVariant.ResetEndpoint d) = types.reset_endpoint ∷ d.endpoint_id ∷ d.slot_id ∷ []
-values_of (CommandTrbVariant.StopEndpoint d) = types.stop_endpoint ∷ d.endpoint_id ∷ d.slot_id ∷ []
-values_of (CommandTrbVariant.SetTrDequeuePointer d) =
+values_in (CommandTrbVariant.EvaluateContext d) = types.evaluate_context ∷ d.input_context_pointer ∷ d.slot_id ∷ []
+values_in (CommandTrbVariant.ResetEndpoint d) = types.reset_endpoint ∷ d.endpoint_id ∷ d.slot_id ∷ []
+values_in (CommandTrbVariant.StopEndpoint d) = types.stop_endpoint ∷ d.endpoint_id ∷ d.slot_id ∷ []
+values_in (CommandTrbVariant.SetTrDequeuePointer d) =
     types.set_tr_dequeue_pointer ∷ bit d.dequeue_cycle_state ∷ d.stream_context_type ∷ d.dequeue_pointer ∷ d.stream_id
     ∷ d.endpoint_id ∷ d.slot_id ∷ []
-values_of (CommandTrbVariant.ResetDevice d) = types.reset_device ∷ d.slot_id ∷ []
-values_of CommandTrbVariant.ForceHeader = types.force_header ∷ []
-values_of (CommandTrbVariant.Unrecognized e) = e.number ∷ e.trb_type ∷ []
+values_in (CommandTrbVariant.ResetDevice d) = types.reset_device ∷ d.slot_id ∷ []
+values_in CommandTrbVariant.ForceHeader = types.force_header ∷ []
+
+abbrev pub values_of : Parsed CommandTrbVariant → List ℕ
+values_of p = values_by values_in p
 
 -- ---- the same from the TRB itself, in document 01's numbers; proofs/Shown.antt proves that every answer has these
 

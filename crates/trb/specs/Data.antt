@@ -1,9 +1,10 @@
 -- The data that a Normal or Data Stage TRB points at (xHCI 4.11.2, 6.4.1.1, 6.4.1.2.2): none in memory where the TRB holds it itself.
-use Rattle.std.specs.Prelude.{ℕ, List, [], ◌∷◌, true, not, ◌≡◌}
-use Rattle.guest.specs.Refusals.{outside, immediate}
+use Rattle.std.specs.Prelude.{ℕ, List, [], ◌∷◌, true, not, ◌≡◌, Result}
+use Rattle.guest.specs.Refusals.{outside, immediate, as_result}
 use Rattle.guest.specs.Faults.{Not, Faults, Inside}
 use Rattle.guest.specs.Judge.{Tests, judge, refusal_of}
 use Rattle.guest.specs.Memory.{Memory, inside, offset, part}
+use Rattle.guest.specs.declared.refusal.Refusal.{Refusal}
 use Rattle.trb.specs.declared.transfer.NormalTrb.{NormalTrb}
 use Rattle.trb.specs.declared.transfer.DataStageTrb.{DataStageTrb}
 use Rattle.trb.specs.declared.data.TrbDmaInfo.{TrbDmaInfo}
@@ -27,6 +28,9 @@ data_faults m i = (13, i.immediate_data ≡ true) ∷ (1, Not (Inside m i.data_p
 
 unfoldable pub data_refusal : Memory → TrbDmaInfo → ℕ
 data_refusal m i = refusal_of (data_tests m i)
+
+abbrev pub data_answer : Memory → TrbDmaInfo → Result (Unit {0}) Refusal
+data_answer m i = as_result (data_refusal m i) tt
 
 -- the bytes, none beside a refusal, and how far from the window's start they begin, 0 beside a refusal
 unfoldable pub data_of : Memory → TrbDmaInfo → List ℕ

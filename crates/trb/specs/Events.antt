@@ -1,21 +1,18 @@
 -- Event TRBs, xHCI 6.4.2: the sixteen bytes of an event, and the event of sixteen bytes.
-use Rattle.std.specs.Prelude.{ℕ, ◌+◌, ◌*◌, ◌^◌, ◌<◌, List, [], ◌∷◌, Bool, true, false, ◌&&◌, replicate, ltb, eqb}
-use Rattle.guest.specs.Refusals.{event, type, reserved, code}
+use Rattle.std.specs.Prelude.{ℕ, ◌+◌, ◌*◌, ◌^◌, ◌<◌, List, [], ◌∷◌, Bool, true, false, ◌&&◌, ltb, eqb, Option, Some, None, Result, Ok, Err}
+use Rattle.guest.specs.Refusals.{event, type, reserved, code, by_number}
 use Rattle.guest.specs.Judge.{Tests, judge}
 use Rattle.guest.specs.Fields.{bits, field, bytes_of_dwords}
 use Rattle.guest.specs.declared.Dwords.{Dwords}
-use Rattle.guest.specs.declared.TrbAnswer.{TrbAnswer}
+use Rattle.guest.specs.declared.refusal.Refusal.{Refusal}
 use Rattle.codes.specs.Codes.{number_of, code_of}
 use Rattle.codes.specs.Types as types
 use Rattle.codes.specs.declared.CompletionCode.{CompletionCode}
-use Rattle.codes.specs.declared.Coded.{Coded}
-use Rattle.trb.specs.Trb.{type_of, pointer_of, flag_of, bit, when, ◌or◌, ◌to◌, one_of, values_shown}
+use Rattle.trb.specs.Trb.{type_of, pointer_of, flag_of, Parsed, unrecognized, values_by, bit, when, ◌or◌, ◌to◌, one_of, values_shown}
 use Rattle.trb.specs.declared.event.TransferEventTrbData.{TransferEventTrbData}
 use Rattle.trb.specs.declared.event.CommandCompletionEventTrbData.{CommandCompletionEventTrbData}
 use Rattle.trb.specs.declared.event.PortStatusChangeEventTrbData.{PortStatusChangeEventTrbData}
 use Rattle.trb.specs.declared.event.EventTrb.{EventTrb}
-use Rattle.trb.specs.declared.event.EventVariant.{EventVariant}
-use Rattle.trb.specs.declared.event.ParsedEvent.{ParsedEvent}
 
 -- ---- writing
 
@@ -104,22 +101,19 @@ valid (EventTrb.PortStatusChange t) = true
 abbrev pub event_tests : EventTrb → Tests
 event_tests e = (event, valid e) ∷ []
 
-abbrev pub refused : ℕ → TrbAnswer
-refused n = record { refusal = n; trb = replicate 16 0 }
+abbrev pub refused : ℕ → Result (List ℕ) Refusal
+refused n = Err (by_number n)
 
-abbrev pub accepted : List ℕ → TrbAnswer
-accepted trb = record { refusal = 0; trb = trb }
+abbrev pub accepted : List ℕ → Result (List ℕ) Refusal
+accepted trb = Ok trb
 
-unfoldable pub bytes_answered : EventTrb → Bool → TrbAnswer
+unfoldable pub bytes_answered : EventTrb → Bool → Result (List ℕ) Refusal
 bytes_answered e c = judge (event_tests e) refused (accepted (event_bytes e c))
 
 -- ---- reading
 
-abbrev pub answered : EventTrb → ParsedEvent
-answered e = record { variant = EventVariant.Event e; raw = replicate 16 0 }
-
-abbrev pub unrecognized : ℕ → ℕ → List ℕ → ParsedEvent
-unrecognized n t trb = record { variant = EventVariant.Unrecognized (record { number = n; trb_type = t }); raw = trb }
+abbrev pub answered : EventTrb → Parsed EventTrb
+answered e = Ok e
 
 -- whether fields, each a dword, a low bit and a width, are all 0
 abbrev pub clear : List ℕ → List (ℕ × ℕ × ℕ) → Bool
@@ -143,22 +137,22 @@ reserved_in t =
     reserved_in_port_status_change
 
 -- the completion code is bits 31:24 of dword 2; whether it is listed, and then which it is
-abbrev pub code_in : List ℕ → Coded
+abbrev pub code_in : List ℕ → Option CompletionCode
 code_in trb = code_of (field trb 2 24 8)
 
-abbrev pub is_listed : Coded → Bool
-is_listed (Coded.Listed k) = true
-is_listed Coded.Unlisted = false
+abbrev pub is_listed : Option CompletionCode → Bool
+is_listed (Some k) = true
+is_listed None = false
 
-abbrev pub listed_in : Coded → CompletionCode
-listed_in (Coded.Listed k) = k
-listed_in Coded.Unlisted = CompletionCode.Invalid
+abbrev pub listed_in : Option CompletionCode → CompletionCode
+listed_in (Some k) = k
+listed_in None = CompletionCode.Invalid
 
 -- refusals 12, then 11
 abbrev pub read_tests : Bool → Bool → Tests
 read_tests coded zeros = (code, coded) ∷ (reserved, zeros) ∷ []
 
-abbrev pub transfer_as : List ℕ → ParsedEvent
+abbrev pub transfer_as : List ℕ → Parsed EventTrb
 transfer_as trb =
     judge (read_tests (is_listed (code_in trb)) (clear trb reserved_in_transfer)) (λ n. unrecognized n 0 trb)
     (answered (EventTrb.Transfer (record {
@@ -170,7 +164,7 @@ transfer_as trb =
       slot_id = field trb 3 24 8;
     })))
 
-abbrev pub command_completion_as : List ℕ → ParsedEvent
+abbrev pub command_completion_as : List ℕ → Parsed EventTrb
 command_completion_as trb =
     judge (read_tests (is_listed (code_in trb)) (clear trb reserved_in_command_completion)) (λ n. unrecognized n 0 trb)
     (answered (EventTrb.CommandCompletion (record {
@@ -181,13 +175,13 @@ command_completion_as trb =
     })))
 
 -- a Port Status Change says Success, 1, and nothing else
-abbrev pub port_status_change_as : List ℕ → ParsedEvent
+abbrev pub port_status_change_as : List ℕ → Parsed EventTrb
 port_status_change_as trb =
     judge (read_tests (eqb (field trb 2 24 8) 1) (clear trb reserved_in_port_status_change)) (λ n. unrecognized n 0 trb)
     (answered (EventTrb.PortStatusChange (record { port_id = field trb 0 24 8 })))
 
 -- the rows by type, table 6-91
-unfoldable pub event_of : List ℕ → ParsedEvent
+unfoldable pub event_of : List ℕ → Parsed EventTrb
 event_of trb =
     let t = type_of trb in
     when (eqb t types.transfer_event) (transfer_as trb) or
@@ -195,7 +189,7 @@ event_of trb =
     when (eqb t types.port_status_change_event) (port_status_change_as trb) or
     unrecognized type t trb
 
--- ---- document 01's number of an answer, 0 where nothing is refused, and its values: the type, then the fields
+-- ---- document 01's values of an answer: the type, then the fields
 
 abbrev pub values_of_event : EventTrb → List ℕ
 values_of_event (EventTrb.Transfer t) =
@@ -206,13 +200,8 @@ values_of_event (EventTrb.CommandCompletion t) =
     ∷ t.slot_id ∷ []
 values_of_event (EventTrb.PortStatusChange t) = types.port_status_change_event ∷ t.port_id ∷ []
 
-abbrev pub number_of_variant : EventVariant → ℕ
-number_of_variant (EventVariant.Event e) = 0
-number_of_variant (EventVariant.Unrecognized e) = e.number
-
-abbrev pub values_of_variant : EventVariant → List ℕ
-values_of_variant (EventVariant.Event e) = values_of_event e
-values_of_variant (EventVariant.Unrecognized e) = e.number ∷ e.trb_type ∷ []
+abbrev pub values_of : Parsed EventTrb → List ℕ
+values_of p = values_by values_of_event p
 
 -- ---- the same from the TRB itself, in document 01's numbers; proofs/Shown.antt proves that every answer has these
 

@@ -1,11 +1,11 @@
 -- Transfer TRBs, xHCI 6.4.1 and 6.4.4.2. Dword 3 has interrupt on short packet in bit 2, chain in bit 4, interrupt on completion in
 -- bit 5, immediate data in bit 6 and the direction in bit 16; dword 2 has the transfer length in bits 16:0.
-use Rattle.std.specs.Prelude.{ℕ, List, [], ◌∷◌, ◌++◌, replicate, eqb}
+use Rattle.std.specs.Prelude.{ℕ, List, [], ◌∷◌, ◌++◌, eqb, Ok}
 use Rattle.guest.specs.Refusals.{type}
 use Rattle.guest.specs.Judge.{Tests}
 use Rattle.guest.specs.Fields.{field}
 use Rattle.codes.specs.Types as types
-use Rattle.trb.specs.Trb.{type_of, pointer_of, flag_of, bit, when, ◌or◌, ◌to◌, one_of, values_shown}
+use Rattle.trb.specs.Trb.{type_of, pointer_of, flag_of, Parsed, unrecognized, values_by, bit, when, ◌or◌, ◌to◌, one_of, values_shown}
 use Rattle.trb.specs.declared.transfer.NormalTrb.{NormalTrb}
 use Rattle.trb.specs.declared.transfer.SetupStageTrb.{SetupStageTrb}
 use Rattle.trb.specs.declared.transfer.DataStageTrb.{DataStageTrb}
@@ -13,13 +13,9 @@ use Rattle.trb.specs.declared.transfer.StatusStageTrb.{StatusStageTrb}
 use Rattle.trb.specs.declared.transfer.EventDataTrb.{EventDataTrb}
 use Rattle.trb.specs.declared.transfer.NoOpTrb.{NoOpTrb}
 use Rattle.trb.specs.declared.transfer.TransferTrbVariant.{TransferTrbVariant}
-use Rattle.trb.specs.declared.transfer.ParsedTransfer.{ParsedTransfer}
 
-abbrev pub answered : TransferTrbVariant → ParsedTransfer
-answered v = record { variant = v; raw = replicate 16 0 }
-
-abbrev pub unrecognized : ℕ → ℕ → List ℕ → ParsedTransfer
-unrecognized n t trb = record { variant = TransferTrbVariant.Unrecognized (record { number = n; trb_type = t }); raw = trb }
+abbrev pub answered : TransferTrbVariant → Parsed TransferTrbVariant
+answered v = Ok v
 
 -- ---- the fields of each type
 
@@ -73,7 +69,7 @@ abbrev pub no_op_trb : List ℕ → NoOpTrb
 no_op_trb trb = record { chain = flag_of trb 3 4; interrupt_on_completion = flag_of trb 3 5 }
 
 -- the rows by type, table 6-91; an Isoch TRB is recognised and not taken apart, and any other number, Link's too, has no row
-unfoldable pub transfer_of : List ℕ → ParsedTransfer
+unfoldable pub transfer_of : List ℕ → Parsed TransferTrbVariant
 transfer_of trb =
     let t = type_of trb in
     when (eqb t types.normal) (answered (TransferTrbVariant.Normal (normal_trb trb))) or
@@ -85,34 +81,26 @@ transfer_of trb =
     when (eqb t types.no_op) (answered (TransferTrbVariant.NoOp (no_op_trb trb))) or
     unrecognized type t trb
 
--- ---- document 01's number of an answer, 0 where nothing is refused, and its values: the type, then the fields
+-- ---- document 01's values of an answer: the type, then the fields
 
-abbrev pub number_of : TransferTrbVariant → ℕ
-number_of (TransferTrbVariant.Normal d) = 0
-number_of (TransferTrbVariant.SetupStage d) = 0
-number_of (TransferTrbVariant.DataStage d) = 0
-number_of (TransferTrbVariant.StatusStage d) = 0
-number_of TransferTrbVariant.Isoch = 0
-number_of (TransferTrbVariant.EventData d) = 0
-number_of (TransferTrbVariant.NoOp d) = 0
-number_of (TransferTrbVariant.Unrecognized e) = e.number
-
-abbrev pub values_of : TransferTrbVariant → List ℕ
-values_of (TransferTrbVariant.Normal d) =
+abbrev pub values_in : TransferTrbVariant → List ℕ
+values_in (TransferTrbVariant.Normal d) =
     types.normal ∷ d.data_pointer ∷ d.transfer_length ∷ bit d.interrupt_on_short ∷ bit d.chain
     ∷ bit d.interrupt_on_completion ∷ bit d.immediate_data ∷ []
-values_of (TransferTrbVariant.SetupStage d) =
+values_in (TransferTrbVariant.SetupStage d) =
     types.setup_stage ∷ d.request_type ∷ d.request ∷ d.value ∷ d.index ∷ d.length ∷ bit d.interrupt_on_completion ∷ []
-values_of (TransferTrbVariant.DataStage d) =
+values_in (TransferTrbVariant.DataStage d) =
     types.data_stage ∷ d.data_pointer ∷ d.transfer_length ∷ bit d.interrupt_on_short ∷ bit d.chain
     ∷ bit d.interrupt_on_completion ∷ bit d.immediate_data ∷ bit d.direction ∷ []
-values_of (TransferTrbVariant.StatusStage d) =
+values_in (TransferTrbVariant.StatusStage d) =
     types.status_stage ∷ bit d.chain ∷ bit d.interrupt_on_completion ∷ bit d.direction ∷ []
-values_of TransferTrbVariant.Isoch = types.isoch ∷ []
-values_of (TransferTrbVariant.EventData d) =
+values_in TransferTrbVariant.Isoch = types.isoch ∷ []
+values_in (TransferTrbVariant.EventData d) =
     types.event_data ∷ d.event_data ∷ bit d.chain ∷ bit d.interrupt_on_completion ∷ []
-values_of (TransferTrbVariant.NoOp d) = types.no_op ∷ bit d.chain ∷ bit d.interrupt_on_completion ∷ []
-values_of (TransferTrbVariant.Unrecognized e) = e.number ∷ e.trb_type ∷ []
+values_in (TransferTrbVariant.NoOp d) = types.no_op ∷ bit d.chain ∷ bit d.interrupt_on_completion ∷ []
+
+abbrev pub values_of : Parsed TransferTrbVariant → List ℕ
+values_of p = values_by values_in p
 
 -- ---- the same from the TRB itself, in document 01's numbers; proofs/Shown.antt proves that every answer has these
 

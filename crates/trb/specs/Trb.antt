@@ -1,8 +1,10 @@
 -- What the TRBs share (xHCI 6.4): fields by dword, low bit and width; a definition by rows; and what an answer shows.
-use Rattle.std.specs.Prelude.{ℕ, zero, suc, ◌+◌, ◌-◌, ◌*◌, ◌^◌, List, [], ◌∷◌, Bool, false, cond, ◌||◌, eqb, replicate}
-use Rattle.guest.specs.Refusals.{optional, type}
+use Rattle.std.specs.Prelude.{ℕ, zero, suc, ◌+◌, ◌-◌, ◌*◌, ◌^◌, List, [], ◌∷◌, Bool, false, cond, ◌||◌, eqb, replicate, Result, Ok, Err}
+use Rattle.guest.specs.Refusals.{optional, type, by_number}
+use Rattle.guest.specs.Refusals as refusals
 use Rattle.guest.specs.Judge.{Tests, judge}
 use Rattle.guest.specs.Fields.{field}
+use Rattle.trb.specs.declared.Unrecognized.{Unrecognized}
 
 -- the bit of a dword
 abbrev pub flag_of : List ℕ → ℕ → ℕ → Bool
@@ -47,6 +49,27 @@ lo to hi = upward lo (hi + 1 - lo)
 abbrev pub one_of : ℕ → List ℕ → Bool
 one_of n [] = false
 one_of n (k ∷ ks) = eqb n k || one_of n ks
+
+-- ---- what a parser answers: what it made of the TRB, or a refusal with the raw bytes, and beside 9 and 10 with the type
+
+abbrev pub Parsed : Type 0 → Type 0
+Parsed A = Result A Unrecognized
+
+abbrev pub unrecognized : {A : Type 0} → ℕ → ℕ → List ℕ → Parsed A
+unrecognized n t trb = Err (record { error = record { refusal = by_number n; trb_type = t }; raw = trb })
+
+-- document 01's number of an answer, 0 where nothing is refused; its values, where `values` are those of what was made; and its raw bytes
+abbrev pub number_of : {A : Type 0} → Parsed A → ℕ
+number_of (Ok x) = 0
+number_of (Err u) = refusals.number_of u.error.refusal
+
+abbrev pub values_by : {A : Type 0} → (A → List ℕ) → Parsed A → List ℕ
+values_by values (Ok x) = values x
+values_by values (Err u) = refusals.number_of u.error.refusal ∷ u.error.trb_type ∷ []
+
+abbrev pub raw_of : {A : Type 0} → Parsed A → List ℕ
+raw_of (Ok x) = replicate 16 0
+raw_of (Err u) = u.raw
 
 -- ---- what a parser's answer shows, by the tests of its refusals
 

@@ -1,11 +1,11 @@
 // The commands of a driver (xHCI 6.4.3).
 ghost use Rattle.std.specs.Prelude.{◌≡◌};
 ghost use Rattle.guest.specs.Fields.{field};
-ghost use Rattle.trb.specs.Commands.{unrecognized, answered, aligned, disable_slot_as, address_device_as, configure_endpoint_as, evaluate_context_as, reset_endpoint_as, stop_endpoint_as, set_tr_dequeue_pointer_as, reset_device_as, command_of};
+ghost use Rattle.trb.specs.Commands.{aligned, disable_slot_as, address_device_as, configure_endpoint_as, evaluate_context_as, reset_endpoint_as, stop_endpoint_as, set_tr_dequeue_pointer_as, reset_device_as, command_of};
 
-use crate::{RawTrbBuffer, TrbParseError};
+use crate::{RawTrbBuffer, Unrecognized};
 use codes::trb_types;
-use guest::refusal;
+use guest::refusal::Refusal;
 
 #[derive(Clone, Copy)]
 pub struct DisableSlotCommandTrbData {
@@ -72,53 +72,27 @@ pub enum CommandTrbVariant {
     SetTrDequeuePointer(SetTrDequeuePointerCommandTrbData),
     ResetDevice(ResetDeviceCommandTrbData),
     ForceHeader,
-    Unrecognized(TrbParseError),
-}
-
-// A command, with raw 0; or Unrecognized, with the raw bytes.
-#[derive(Clone, Copy)]
-pub struct ParsedCommand {
-    pub variant: CommandTrbVariant,
-    pub raw: RawTrbBuffer,
-}
-
-fn answer(variant: CommandTrbVariant) -> ParsedCommand
-    ensures { result ≡ answered variant }
-{
-    ParsedCommand {
-        variant,
-        raw: [0u8; 16],
-    }
-}
-
-fn refuse(number: u8, trb_type: u8, raw: RawTrbBuffer) -> ParsedCommand
-    ensures { result ≡ unrecognized number trb_type raw }
-{
-    ParsedCommand {
-        variant: CommandTrbVariant::Unrecognized(TrbParseError { number, trb_type }),
-        raw,
-    }
 }
 
 // The command, or refusal 11 where the pointer's low four bits are not 0.
-fn aligned(raw: RawTrbBuffer, variant: CommandTrbVariant) -> ParsedCommand
+fn aligned(raw: RawTrbBuffer, variant: CommandTrbVariant) -> Result<CommandTrbVariant, Unrecognized>
     ensures { result ≡ aligned raw variant }
 {
     if crate::low_bits(raw) != 0 {
-        return refuse(refusal::RESERVED, 0, raw);
+        return Err(Unrecognized::new(Refusal::Reserved, 0, raw));
     }
-    answer(variant)
+    Ok(variant)
 }
 
-fn disable_slot(raw: RawTrbBuffer) -> ParsedCommand
+fn disable_slot(raw: RawTrbBuffer) -> Result<CommandTrbVariant, Unrecognized>
     ensures { result ≡ disable_slot_as raw }
 {
-    answer(CommandTrbVariant::DisableSlot(DisableSlotCommandTrbData {
+    Ok(CommandTrbVariant::DisableSlot(DisableSlotCommandTrbData {
         slot_id: crate::slot_id(raw),
     }))
 }
 
-fn address_device(raw: RawTrbBuffer) -> ParsedCommand
+fn address_device(raw: RawTrbBuffer) -> Result<CommandTrbVariant, Unrecognized>
     ensures { result ≡ address_device_as raw }
 {
     aligned(
@@ -131,7 +105,7 @@ fn address_device(raw: RawTrbBuffer) -> ParsedCommand
     )
 }
 
-fn configure_endpoint(raw: RawTrbBuffer) -> ParsedCommand
+fn configure_endpoint(raw: RawTrbBuffer) -> Result<CommandTrbVariant, Unrecognized>
     ensures { result ≡ configure_endpoint_as raw }
 {
     aligned(
@@ -144,7 +118,7 @@ fn configure_endpoint(raw: RawTrbBuffer) -> ParsedCommand
     )
 }
 
-fn evaluate_context(raw: RawTrbBuffer) -> ParsedCommand
+fn evaluate_context(raw: RawTrbBuffer) -> Result<CommandTrbVariant, Unrecognized>
     ensures { result ≡ evaluate_context_as raw }
 {
     aligned(
@@ -156,19 +130,19 @@ fn evaluate_context(raw: RawTrbBuffer) -> ParsedCommand
     )
 }
 
-fn reset_endpoint(raw: RawTrbBuffer) -> ParsedCommand
+fn reset_endpoint(raw: RawTrbBuffer) -> Result<CommandTrbVariant, Unrecognized>
     ensures { result ≡ reset_endpoint_as raw }
 {
-    answer(CommandTrbVariant::ResetEndpoint(ResetEndpointCommandTrbData {
+    Ok(CommandTrbVariant::ResetEndpoint(ResetEndpointCommandTrbData {
         slot_id: crate::slot_id(raw),
         endpoint_id: crate::endpoint_id(raw),
     }))
 }
 
-fn stop_endpoint(raw: RawTrbBuffer) -> ParsedCommand
+fn stop_endpoint(raw: RawTrbBuffer) -> Result<CommandTrbVariant, Unrecognized>
     ensures { result ≡ stop_endpoint_as raw }
 {
-    answer(CommandTrbVariant::StopEndpoint(StopEndpointCommandTrbData {
+    Ok(CommandTrbVariant::StopEndpoint(StopEndpointCommandTrbData {
         endpoint_id: crate::endpoint_id(raw),
         slot_id: crate::slot_id(raw),
     }))
@@ -181,10 +155,10 @@ fn stream_context_type(raw: RawTrbBuffer) -> u8
     raw[0] % 16 / 2
 }
 
-fn set_tr_dequeue_pointer(raw: RawTrbBuffer) -> ParsedCommand
+fn set_tr_dequeue_pointer(raw: RawTrbBuffer) -> Result<CommandTrbVariant, Unrecognized>
     ensures { result ≡ set_tr_dequeue_pointer_as raw }
 {
-    answer(CommandTrbVariant::SetTrDequeuePointer(SetTrDequeuePointerCommandTrbData {
+    Ok(CommandTrbVariant::SetTrDequeuePointer(SetTrDequeuePointerCommandTrbData {
         dequeue_cycle_state: crate::flag(raw, 0, 0),
         stream_context_type: stream_context_type(raw),
         dequeue_pointer: crate::aligned_pointer(raw),
@@ -194,21 +168,21 @@ fn set_tr_dequeue_pointer(raw: RawTrbBuffer) -> ParsedCommand
     }))
 }
 
-fn reset_device(raw: RawTrbBuffer) -> ParsedCommand
+fn reset_device(raw: RawTrbBuffer) -> Result<CommandTrbVariant, Unrecognized>
     ensures { result ≡ reset_device_as raw }
 {
-    answer(CommandTrbVariant::ResetDevice(ResetDeviceCommandTrbData {
+    Ok(CommandTrbVariant::ResetDevice(ResetDeviceCommandTrbData {
         slot_id: crate::slot_id(raw),
     }))
 }
 
 impl CommandTrbVariant {
-    pub fn parse(raw: RawTrbBuffer) -> ParsedCommand
+    pub fn parse(raw: RawTrbBuffer) -> Result<CommandTrbVariant, Unrecognized>
         ensures { result ≡ command_of raw }
     {
         let trb_type = crate::trb_type(raw);
         match trb_type {
-            trb_types::ENABLE_SLOT_COMMAND => answer(CommandTrbVariant::EnableSlot),
+            trb_types::ENABLE_SLOT_COMMAND => Ok(CommandTrbVariant::EnableSlot),
             trb_types::DISABLE_SLOT_COMMAND => disable_slot(raw),
             trb_types::ADDRESS_DEVICE_COMMAND => address_device(raw),
             trb_types::CONFIGURE_ENDPOINT_COMMAND => configure_endpoint(raw),
@@ -220,10 +194,14 @@ impl CommandTrbVariant {
             trb_types::FORCE_EVENT_COMMAND
             | trb_types::NEGOTIATE_BANDWIDTH_COMMAND
             | trb_types::SET_LATENCY_TOLERANCE_VALUE_COMMAND
-            | trb_types::GET_PORT_BANDWIDTH_COMMAND => refuse(refusal::OPTIONAL, trb_type, raw),
-            trb_types::FORCE_HEADER_COMMAND => answer(CommandTrbVariant::ForceHeader),
-            trb_types::NO_OP_COMMAND => answer(CommandTrbVariant::NoOp),
-            _ => refuse(refusal::TYPE, trb_type, raw),
+            | trb_types::GET_PORT_BANDWIDTH_COMMAND => Err(Unrecognized::new(
+                Refusal::Optional,
+                trb_type,
+                raw,
+            )),
+            trb_types::FORCE_HEADER_COMMAND => Ok(CommandTrbVariant::ForceHeader),
+            trb_types::NO_OP_COMMAND => Ok(CommandTrbVariant::NoOp),
+            _ => Err(Unrecognized::new(Refusal::Type, trb_type, raw)),
         }
     }
 }

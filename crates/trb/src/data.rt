@@ -1,10 +1,11 @@
 // The data that a Normal or Data Stage TRB points at: the very part of guest memory, uncopied.
 ghost use Rattle.std.specs.Prelude.{◌≡◌, ◌+◌};
 ghost use Rattle.guest.specs.Memory.{window};
-ghost use Rattle.trb.specs.Data.{of_normal, of_data_stage, data_refusal, data_of, data_offset};
+ghost use Rattle.trb.specs.Data.{of_normal, of_data_stage, data_answer, data_of, data_offset};
 
 use crate::transfer::{DataStageTrb, NormalTrb};
-use guest::refusal;
+use guest::Window;
+use guest::refusal::Refusal;
 
 // What a Normal and a Data Stage TRB say of their data.
 #[derive(Clone, Copy)]
@@ -14,42 +15,41 @@ pub struct TrbDmaInfo {
     pub immediate_data: bool,
 }
 
-impl NormalTrb {
-    pub fn dma_info(self) -> TrbDmaInfo
-        ensures { result ≡ of_normal self }
-    {
+impl From<NormalTrb> for TrbDmaInfo {
+    ghost from_gives = { λ t i. i ≡ of_normal t };
+
+    fn from(normal: NormalTrb) -> TrbDmaInfo {
         TrbDmaInfo {
-            data_pointer: self.data_pointer,
-            transfer_length: self.transfer_length,
-            immediate_data: self.immediate_data,
+            data_pointer: normal.data_pointer,
+            transfer_length: normal.transfer_length,
+            immediate_data: normal.immediate_data,
         }
     }
 }
 
-impl DataStageTrb {
-    pub fn dma_info(self) -> TrbDmaInfo
-        ensures { result ≡ of_data_stage self }
-    {
+impl From<DataStageTrb> for TrbDmaInfo {
+    ghost from_gives = { λ t i. i ≡ of_data_stage t };
+
+    fn from(stage: DataStageTrb) -> TrbDmaInfo {
         TrbDmaInfo {
-            data_pointer: self.data_pointer,
-            transfer_length: self.transfer_length,
-            immediate_data: self.immediate_data,
+            data_pointer: stage.data_pointer,
+            transfer_length: stage.transfer_length,
+            immediate_data: stage.immediate_data,
         }
     }
 }
 
-// The number of the refusal, or 0.
-pub fn data_refusal(start: u64, mem: &[u8], info: TrbDmaInfo) -> u8
-    ensures { result ≡ data_refusal (window start mem.now) info }
+// Whether the data is all in memory, or what refuses it.
+pub fn data_refusal(mem: &Window<'_>, info: TrbDmaInfo) -> Result<(), Refusal>
+    ensures { result ≡ data_answer mem.now info }
 {
     if info.immediate_data {
-        return refusal::IMMEDIATE;
+        return Err(Refusal::Immediate);
     }
-    let length = info.transfer_length as u64;
-    if guest::inside(start, mem, info.data_pointer, length) {
-        return 0;
+    if !mem.inside(info.data_pointer, info.transfer_length as u64) {
+        return Err(Refusal::Outside);
     }
-    refusal::OUTSIDE
+    Ok(())
 }
 
 // The part of the memory, empty beside a refusal: its bytes, and how far from the window's start it begins.
@@ -60,6 +60,5 @@ pub fn data(start: u64, mem: &[u8], info: TrbDmaInfo) -> &[u8]
     if info.immediate_data {
         return &mem[0..0];
     }
-    let length = info.transfer_length as u64;
-    guest::part(start, mem, info.data_pointer, length)
+    guest::part(start, mem, info.data_pointer, info.transfer_length as u64)
 }

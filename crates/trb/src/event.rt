@@ -2,11 +2,12 @@
 ghost use Rattle.std.specs.Prelude.{◌≡◌, ◌<◌, ◌^◌};
 ghost use Rattle.guest.specs.Fields.{field};
 ghost use Rattle.trb.specs.Trb.{bit};
-ghost use Rattle.trb.specs.Events.{transfer_dwords, command_completion_dwords, port_status_change_dwords, bytes_answered, answered, unrecognized, clear, reserved_in_transfer, reserved_in_command_completion, reserved_in_port_status_change, transfer_as, command_completion_as, port_status_change_as, event_of};
+ghost use Rattle.trb.specs.Events.{transfer_dwords, command_completion_dwords, port_status_change_dwords, bytes_answered, clear, reserved_in_transfer, reserved_in_command_completion, reserved_in_port_status_change, transfer_as, command_completion_as, port_status_change_as, event_of};
 
-use crate::{RawTrbBuffer, TrbParseError};
-use codes::{Coded, CompletionCode, trb_types};
-use guest::{Dwords, TrbAnswer, refusal};
+use crate::{RawTrbBuffer, Unrecognized};
+use codes::{CompletionCode, trb_types};
+use guest::Dwords;
+use guest::refusal::Refusal;
 
 #[derive(Clone, Copy)]
 pub struct TransferEventTrbData {
@@ -41,35 +42,16 @@ pub enum EventTrb {
     PortStatusChange(PortStatusChangeEventTrbData),
 }
 
-#[derive(Clone, Copy)]
-pub enum EventVariant {
-    Event(EventTrb),
-    Unrecognized(TrbParseError),
-}
-
-// An event, with raw 0; or Unrecognized, with the raw bytes.
-#[derive(Clone, Copy)]
-pub struct ParsedEvent {
-    pub variant: EventVariant,
-    pub raw: RawTrbBuffer,
-}
-
 // ---- writing
-
-fn bit(b: bool) -> u32
-    ensures { (result ≡ bit b) × (result < 2) }
-{
-    if b { 1 } else { 0 }
-}
 
 fn transfer_dwords(t: TransferEventTrbData, cycle_bit: bool) -> Dwords
     requires { t.trb_transfer_length < 2 ^ 24 }
     ensures { result ≡ transfer_dwords t cycle_bit }
 {
     let listed = t.completion_code;
-    let code = listed.number() as u32;
-    let data = bit(t.event_data);
-    let cycle = bit(cycle_bit);
+    let code = u32::from(listed.number());
+    let data = t.event_data as u32;
+    let cycle = cycle_bit as u32;
     Dwords {
         d0: (t.trb_pointer % 0x1_0000_0000) as u32,
         d1: (t.trb_pointer / 0x1_0000_0000 % 0x1_0000_0000) as u32,
@@ -77,8 +59,8 @@ fn transfer_dwords(t: TransferEventTrbData, cycle_bit: bool) -> Dwords
         d3: cycle
             + data * 4
             + 0x8000
-            + (t.endpoint_id as u32) * 0x1_0000
-            + (t.slot_id as u32) * 0x100_0000,
+            + u32::from(t.endpoint_id) * 0x1_0000
+            + u32::from(t.slot_id) * 0x100_0000,
     }
 }
 
@@ -87,22 +69,22 @@ fn command_completion_dwords(t: CommandCompletionEventTrbData, cycle_bit: bool) 
     ensures { result ≡ command_completion_dwords t cycle_bit }
 {
     let listed = t.completion_code;
-    let code = listed.number() as u32;
-    let cycle = bit(cycle_bit);
+    let code = u32::from(listed.number());
+    let cycle = cycle_bit as u32;
     Dwords {
         d0: (t.command_trb_pointer % 0x1_0000_0000) as u32,
         d1: (t.command_trb_pointer / 0x1_0000_0000 % 0x1_0000_0000) as u32,
         d2: t.command_completion_parameter + code * 0x100_0000,
-        d3: cycle + 0x8400 + (t.slot_id as u32) * 0x100_0000,
+        d3: cycle + 0x8400 + u32::from(t.slot_id) * 0x100_0000,
     }
 }
 
 fn port_status_change_dwords(t: PortStatusChangeEventTrbData, cycle_bit: bool) -> Dwords
     ensures { result ≡ port_status_change_dwords t cycle_bit }
 {
-    let cycle = bit(cycle_bit);
+    let cycle = cycle_bit as u32;
     Dwords {
-        d0: (t.port_id as u32) * 0x100_0000,
+        d0: u32::from(t.port_id) * 0x100_0000,
         d1: 0,
         d2: 0x100_0000,
         d3: cycle + 0x8800,
@@ -111,29 +93,11 @@ fn port_status_change_dwords(t: PortStatusChangeEventTrbData, cycle_bit: bool) -
 
 // ---- reading
 
-fn answer(event: EventTrb) -> ParsedEvent
-    ensures { result ≡ answered event }
-{
-    ParsedEvent {
-        variant: EventVariant::Event(event),
-        raw: [0u8; 16],
-    }
-}
-
-fn refuse(number: u8, trb_type: u8, raw: RawTrbBuffer) -> ParsedEvent
-    ensures { result ≡ unrecognized number trb_type raw }
-{
-    ParsedEvent {
-        variant: EventVariant::Unrecognized(TrbParseError { number, trb_type }),
-        raw,
-    }
-}
-
 // Bytes 8 to 10.
 fn low_three(raw: RawTrbBuffer) -> u32
     ensures { result ≡ field raw 2 0 24 }
 {
-    let d = guest::split(raw);
+    let d = Dwords::from(raw);
     d.d2 % 0x100_0000
 }
 
@@ -142,21 +106,21 @@ fn low_three(raw: RawTrbBuffer) -> u32
 fn transfer_clear(raw: RawTrbBuffer) -> bool
     ensures { result ≡ clear raw reserved_in_transfer }
 {
-    let d = guest::split(raw);
+    let d = Dwords::from(raw);
     (d.d3 / 2 % 2 == 0) & (d.d3 / 8 % 0x80 == 0)
 }
 
 fn command_completion_clear(raw: RawTrbBuffer) -> bool
     ensures { result ≡ clear raw reserved_in_command_completion }
 {
-    let d = guest::split(raw);
+    let d = Dwords::from(raw);
     (d.d0 % 0x10 == 0) & (d.d3 / 2 % 0x200 == 0) & (d.d3 / 0x1_0000 % 0x100 == 0)
 }
 
 fn port_status_change_clear(raw: RawTrbBuffer) -> bool
     ensures { result ≡ clear raw reserved_in_port_status_change }
 {
-    let d = guest::split(raw);
+    let d = Dwords::from(raw);
     (d.d0 % 0x100_0000 == 0)
         & (d.d1 == 0)
         & (d.d2 % 0x100_0000 == 0)
@@ -164,16 +128,16 @@ fn port_status_change_clear(raw: RawTrbBuffer) -> bool
         & (d.d3 / 0x1_0000 % 0x1_0000 == 0)
 }
 
-fn transfer(raw: RawTrbBuffer) -> ParsedEvent
+fn transfer(raw: RawTrbBuffer) -> Result<EventTrb, Unrecognized>
     ensures { result ≡ transfer_as raw }
 {
-    let Coded::Listed(completion_code) = codes::code_of(crate::byte(raw, 11)) else {
-        return refuse(refusal::CODE, 0, raw);
+    let Some(completion_code) = codes::code_of(crate::byte(raw, 11)) else {
+        return Err(Unrecognized::new(Refusal::Code, 0, raw));
     };
     if !transfer_clear(raw) {
-        return refuse(refusal::RESERVED, 0, raw);
+        return Err(Unrecognized::new(Refusal::Reserved, 0, raw));
     }
-    answer(EventTrb::Transfer(TransferEventTrbData {
+    Ok(EventTrb::Transfer(TransferEventTrbData {
         trb_pointer: crate::pointer(raw),
         trb_transfer_length: low_three(raw),
         completion_code,
@@ -183,16 +147,16 @@ fn transfer(raw: RawTrbBuffer) -> ParsedEvent
     }))
 }
 
-fn command_completion(raw: RawTrbBuffer) -> ParsedEvent
+fn command_completion(raw: RawTrbBuffer) -> Result<EventTrb, Unrecognized>
     ensures { result ≡ command_completion_as raw }
 {
-    let Coded::Listed(completion_code) = codes::code_of(crate::byte(raw, 11)) else {
-        return refuse(refusal::CODE, 0, raw);
+    let Some(completion_code) = codes::code_of(crate::byte(raw, 11)) else {
+        return Err(Unrecognized::new(Refusal::Code, 0, raw));
     };
     if !command_completion_clear(raw) {
-        return refuse(refusal::RESERVED, 0, raw);
+        return Err(Unrecognized::new(Refusal::Reserved, 0, raw));
     }
-    answer(EventTrb::CommandCompletion(CommandCompletionEventTrbData {
+    Ok(EventTrb::CommandCompletion(CommandCompletionEventTrbData {
         command_trb_pointer: crate::pointer(raw),
         command_completion_parameter: low_three(raw),
         completion_code,
@@ -200,58 +164,40 @@ fn command_completion(raw: RawTrbBuffer) -> ParsedEvent
     }))
 }
 
-fn port_status_change(raw: RawTrbBuffer) -> ParsedEvent
+fn port_status_change(raw: RawTrbBuffer) -> Result<EventTrb, Unrecognized>
     ensures { result ≡ port_status_change_as raw }
 {
     if crate::byte(raw, 11) != 1 {
-        return refuse(refusal::CODE, 0, raw);
+        return Err(Unrecognized::new(Refusal::Code, 0, raw));
     }
     if !port_status_change_clear(raw) {
-        return refuse(refusal::RESERVED, 0, raw);
+        return Err(Unrecognized::new(Refusal::Reserved, 0, raw));
     }
-    answer(EventTrb::PortStatusChange(PortStatusChangeEventTrbData {
+    Ok(EventTrb::PortStatusChange(PortStatusChangeEventTrbData {
         port_id: crate::byte(raw, 3),
     }))
 }
 
 impl EventTrb {
-    // The bytes with the cycle bit given, or refusal 8.
-    pub fn to_bytes(self, cycle_bit: bool) -> TrbAnswer
+    // The bytes with the cycle bit given, or the refusal of an event that they cannot hold.
+    pub fn to_bytes(self, cycle_bit: bool) -> Result<RawTrbBuffer, Refusal>
         ensures { result ≡ bytes_answered self cycle_bit }
     {
         match self {
-            EventTrb::Transfer(t) => {
-                if t.trb_transfer_length < 0x100_0000 {
-                    return TrbAnswer {
-                        refusal: 0,
-                        trb: guest::join(transfer_dwords(t, cycle_bit)),
-                    };
-                }
+            EventTrb::Transfer(t) if t.trb_transfer_length < 0x100_0000 => {
+                Ok(transfer_dwords(t, cycle_bit).into())
             }
-            EventTrb::CommandCompletion(t) => {
-                if t.command_trb_pointer % 16 == 0 {
-                    if t.command_completion_parameter < 0x100_0000 {
-                        return TrbAnswer {
-                            refusal: 0,
-                            trb: guest::join(command_completion_dwords(t, cycle_bit)),
-                        };
-                    }
-                }
+            EventTrb::CommandCompletion(t)
+                if (t.command_trb_pointer % 16 == 0)
+                    & (t.command_completion_parameter < 0x100_0000) => {
+                Ok(command_completion_dwords(t, cycle_bit).into())
             }
-            EventTrb::PortStatusChange(t) => {
-                return TrbAnswer {
-                    refusal: 0,
-                    trb: guest::join(port_status_change_dwords(t, cycle_bit)),
-                };
-            }
-        }
-        TrbAnswer {
-            refusal: refusal::EVENT,
-            trb: [0u8; 16],
+            EventTrb::PortStatusChange(t) => Ok(port_status_change_dwords(t, cycle_bit).into()),
+            _ => Err(Refusal::Event),
         }
     }
 
-    pub fn parse(raw: RawTrbBuffer) -> ParsedEvent
+    pub fn parse(raw: RawTrbBuffer) -> Result<EventTrb, Unrecognized>
         ensures { result ≡ event_of raw }
     {
         let trb_type = crate::trb_type(raw);
@@ -259,7 +205,7 @@ impl EventTrb {
             trb_types::TRANSFER_EVENT => transfer(raw),
             trb_types::COMMAND_COMPLETION_EVENT => command_completion(raw),
             trb_types::PORT_STATUS_CHANGE_EVENT => port_status_change(raw),
-            _ => refuse(refusal::TYPE, trb_type, raw),
+            _ => Err(Unrecognized::new(Refusal::Type, trb_type, raw)),
         }
     }
 }

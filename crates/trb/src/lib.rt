@@ -12,13 +12,34 @@ ghost use Rattle.guest.specs.Bytes.{le};
 ghost use Rattle.guest.specs.Fields.{bits, dword, field};
 ghost use Rattle.trb.specs.Trb.{type_of, cycle_of, pointer_of, aligned_of};
 
+use guest::Dwords;
+use guest::refusal::Refusal;
+
 pub type RawTrbBuffer = [u8; 16];
 
-// Why a TRB is not taken apart: the refusal's number, and beside 9 and 10 the TRB's type.
+// Why a TRB is not taken apart, and beside the refusals Optional and Type the TRB's type, else 0.
 #[derive(Clone, Copy)]
 pub struct TrbParseError {
-    pub number: u8,
+    pub refusal: Refusal,
     pub trb_type: u8,
+}
+
+// What a parser gives back of a TRB that it does not take apart.
+#[derive(Clone, Copy)]
+pub struct Unrecognized {
+    pub error: TrbParseError,
+    pub raw: RawTrbBuffer,
+}
+
+impl Unrecognized {
+    fn new(refusal: Refusal, trb_type: u8, raw: RawTrbBuffer) -> Self
+        ensures { result ≡ record { error = record { refusal = refusal; trb_type = trb_type }; raw = raw } }
+    {
+        Unrecognized {
+            error: TrbParseError { refusal, trb_type },
+            raw,
+        }
+    }
 }
 
 pub fn trb_type(raw: RawTrbBuffer) -> u8
@@ -30,7 +51,7 @@ pub fn trb_type(raw: RawTrbBuffer) -> u8
 pub fn cycle_bit(raw: RawTrbBuffer) -> bool
     ensures { result ≡ cycle_of raw }
 {
-    let d = guest::split(raw);
+    let d = Dwords::from(raw);
     d.d3 % 2 == 1
 }
 
@@ -63,26 +84,20 @@ fn endpoint_id(raw: RawTrbBuffer) -> u8
     raw[14] % 32
 }
 
-fn wide(x: u8) -> u16
-    ensures { (result ≡ x) × (result < 256) }
-{
-    x as u16
-}
-
 // The number of two bytes from byte `at` on.
 fn two(raw: RawTrbBuffer, at: usize) -> u16
     requires { at + 2 ≤ 16 }
     ensures { result ≡ le raw at 2 }
 {
-    wide(raw[at]) + 256 * wide(raw[at + 1])
+    u16::from_le_bytes([raw[at], raw[at + 1]])
 }
 
 // Bytes 0 to 7.
 fn pointer(raw: RawTrbBuffer) -> u64
     ensures { result ≡ pointer_of raw }
 {
-    let d = guest::split(raw);
-    (d.d0 as u64) + (d.d1 as u64) * 0x1_0000_0000
+    let d = Dwords::from(raw);
+    u64::from(d.d0) + u64::from(d.d1) * 0x1_0000_0000
 }
 
 // The low four bits of the pointer, and the pointer with these cleared.

@@ -15,20 +15,14 @@ pub struct LinkTrb {
     pub interrupt_on_completion: bool,
 }
 
-#[derive(Clone, Copy)]
-pub enum LinkOrOther {
-    Link(LinkTrb),
-    Other,
-}
-
 impl LinkTrb {
-    pub fn parse(raw: RawTrbBuffer) -> LinkOrOther
+    pub fn parse(raw: RawTrbBuffer) -> Option<LinkTrb>
         ensures { result ≡ link_of raw }
     {
         if crate::trb_type(raw) != trb_types::LINK {
-            return LinkOrOther::Other;
+            return None;
         }
-        LinkOrOther::Link(LinkTrb {
+        Some(LinkTrb {
             ring_segment_pointer: crate::aligned_pointer(raw),
             pointer_bits_cleared: crate::low_bits(raw) != 0,
             toggle_cycle: crate::flag(raw, 12, 1),

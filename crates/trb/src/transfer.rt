@@ -1,11 +1,12 @@
 // The TRBs of a transfer ring (xHCI 6.4.1, 6.4.4.2).
 ghost use Rattle.std.specs.Prelude.{◌≡◌};
 ghost use Rattle.guest.specs.Fields.{field};
-ghost use Rattle.trb.specs.Transfers.{answered, unrecognized, normal_trb, setup_stage_trb, data_stage_trb, status_stage_trb, event_data_trb, no_op_trb, transfer_of};
+ghost use Rattle.trb.specs.Transfers.{normal_trb, setup_stage_trb, data_stage_trb, status_stage_trb, event_data_trb, no_op_trb, transfer_of};
 
-use crate::{RawTrbBuffer, TrbParseError};
+use crate::{RawTrbBuffer, Unrecognized};
 use codes::trb_types;
-use guest::refusal;
+use guest::Dwords;
+use guest::refusal::Refusal;
 
 #[derive(Clone, Copy)]
 pub struct NormalTrb {
@@ -70,39 +71,13 @@ pub enum TransferTrbVariant {
     Isoch,
     EventData(EventDataTrb),
     NoOp(NoOpTrb),
-    Unrecognized(TrbParseError),
-}
-
-// A transfer TRB, with raw 0; or Unrecognized, with the raw bytes.
-#[derive(Clone, Copy)]
-pub struct ParsedTransfer {
-    pub variant: TransferTrbVariant,
-    pub raw: RawTrbBuffer,
-}
-
-fn answer(variant: TransferTrbVariant) -> ParsedTransfer
-    ensures { result ≡ answered variant }
-{
-    ParsedTransfer {
-        variant,
-        raw: [0u8; 16],
-    }
-}
-
-fn refuse(number: u8, trb_type: u8, raw: RawTrbBuffer) -> ParsedTransfer
-    ensures { result ≡ unrecognized number trb_type raw }
-{
-    ParsedTransfer {
-        variant: TransferTrbVariant::Unrecognized(TrbParseError { number, trb_type }),
-        raw,
-    }
 }
 
 // Bytes 8 and 9 and bit 0 of byte 10.
 fn transfer_length(raw: RawTrbBuffer) -> u32
     ensures { result ≡ field raw 2 0 17 }
 {
-    let d = guest::split(raw);
+    let d = Dwords::from(raw);
     d.d2 % 0x2_0000
 }
 
@@ -176,19 +151,19 @@ fn no_op(raw: RawTrbBuffer) -> NoOpTrb
 }
 
 impl TransferTrbVariant {
-    pub fn parse(raw: RawTrbBuffer) -> ParsedTransfer
+    pub fn parse(raw: RawTrbBuffer) -> Result<TransferTrbVariant, Unrecognized>
         ensures { result ≡ transfer_of raw }
     {
         let trb_type = crate::trb_type(raw);
         match trb_type {
-            trb_types::NORMAL => answer(TransferTrbVariant::Normal(normal(raw))),
-            trb_types::SETUP_STAGE => answer(TransferTrbVariant::SetupStage(setup_stage(raw))),
-            trb_types::DATA_STAGE => answer(TransferTrbVariant::DataStage(data_stage(raw))),
-            trb_types::STATUS_STAGE => answer(TransferTrbVariant::StatusStage(status_stage(raw))),
-            trb_types::ISOCH => answer(TransferTrbVariant::Isoch),
-            trb_types::EVENT_DATA => answer(TransferTrbVariant::EventData(event_data(raw))),
-            trb_types::NO_OP => answer(TransferTrbVariant::NoOp(no_op(raw))),
-            _ => refuse(refusal::TYPE, trb_type, raw),
+            trb_types::NORMAL => Ok(TransferTrbVariant::Normal(normal(raw))),
+            trb_types::SETUP_STAGE => Ok(TransferTrbVariant::SetupStage(setup_stage(raw))),
+            trb_types::DATA_STAGE => Ok(TransferTrbVariant::DataStage(data_stage(raw))),
+            trb_types::STATUS_STAGE => Ok(TransferTrbVariant::StatusStage(status_stage(raw))),
+            trb_types::ISOCH => Ok(TransferTrbVariant::Isoch),
+            trb_types::EVENT_DATA => Ok(TransferTrbVariant::EventData(event_data(raw))),
+            trb_types::NO_OP => Ok(TransferTrbVariant::NoOp(no_op(raw))),
+            _ => Err(Unrecognized::new(Refusal::Type, trb_type, raw)),
         }
     }
 }

@@ -6,7 +6,6 @@ use Rattle.trb.proofs.command.set_tr_dequeue_pointer.Goals as goal
 pub returns : goal.returns
 returns c =
     rw (
-      c.answer.ensures,
       c.slot_id.ensures,
       c.endpoint_id.ensures,
       c.two.ensures,

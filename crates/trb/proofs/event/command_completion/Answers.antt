@@ -1,25 +1,27 @@
 -- By the two tests in their order.
+use Rattle.std.proofs.Common.{ap}
+use Rattle.std.specs.Prelude.{Err}
 use Rattle.guest.specs.Judge.{judge}
+use Rattle.guest.specs.Refusals.{by_number}
 use Rattle.guest.proofs.Tests.{told}
 use Rattle.trb.proofs.Coded.{coded_as}
 use Rattle.trb.proofs.event.command_completion.Goals as goal
 
 pub returns-in_default : goal.returns-in_default
-unfolding judge
-returns-in_default c = rw (coded_as c.byte.ensures c.code_of.ensures c.in_default.is) c.refuse.ensures
+unfolding judge by_number
+returns-in_default c = rw (coded_as c.byte.ensures c.code_of.ensures c.in_default.is) (ap Err c.new.ensures)
 
 pub returns-then-not-command_completion_clear : goal.returns-then-not-command_completion_clear
-unfolding judge
+unfolding judge by_number
 returns-then-not-command_completion_clear c =
-    rw (coded_as c.byte.ensures c.code_of.ensures c.in-Listed.is, told c.command_completion_clear.ensures c.if-not-command_completion_clear.true)
-    c.refuse-then-not-command_completion_clear.ensures
+    rw (coded_as c.byte.ensures c.code_of.ensures c.in-Some.is, told c.command_completion_clear.ensures c.if-not-command_completion_clear.true)
+    (ap Err c.new-then-not-command_completion_clear.ensures)
 
 pub returns : goal.returns
 unfolding judge
 returns c =
     rw (
-      c.answer.ensures,
-      coded_as c.byte.ensures c.code_of.ensures c.in-Listed.is,
+      coded_as c.byte.ensures c.code_of.ensures c.in-Some.is,
       told c.command_completion_clear.ensures c.if-not-command_completion_clear.false,
       c.slot_id.ensures,
       c.low_three.ensures,

@@ -4,4 +4,4 @@ use mathlib.Core.Bool.{and-true}
 use Rattle.trb.proofs.event.transfer_clear.Goals as goal
 
 pub returns : goal.returns
-returns c = rw (c.split-d.ensures, and-true)
+returns c = rw (c.from-d.ensures, and-true)

@@ -1,11 +1,12 @@
 -- In each arm the type that was matched is looked up.
 use Rattle.guest.proofs.Tests.{tests}
+use Rattle.guest.specs.Refusals.{by_number}
 use Rattle.trb.specs.Commands.{command_of}
 use Rattle.trb.proofs.command.CommandTrbVariant.parse.Goals as goal
 
 pub returns-in-9 : goal.returns-in-9
 unfolding command_of
-returns-in-9 c = rw (← c.trb_type-trb_type.ensures, c.in-9.is) c.answer.ensures
+returns-in-9 c = rw (← c.trb_type-trb_type.ensures, c.in-9.is)
 
 pub returns-in-10 : goal.returns-in-10
 unfolding command_of
@@ -41,16 +42,16 @@ returns-in-17 c = rw (← c.trb_type-trb_type.ensures, c.in-17.is) c.reset_devic
 
 pub returns-in-22 : goal.returns-in-22
 unfolding command_of
-returns-in-22 c = rw (← c.trb_type-trb_type.ensures, c.in-22.is) c.answer-in-22.ensures
+returns-in-22 c = rw (← c.trb_type-trb_type.ensures, c.in-22.is)
 
 pub returns-in-23 : goal.returns-in-23
 unfolding command_of
-returns-in-23 c = rw (← c.trb_type-trb_type.ensures, c.in-23.is) c.answer-in-23.ensures
+returns-in-23 c = rw (← c.trb_type-trb_type.ensures, c.in-23.is)
 
 pub returns-in-18 : goal.returns-in-18
-unfolding command_of
-returns-in-18 c = rw (c.refuse.ensures, ← c.trb_type-trb_type.ensures) (search tests)
+unfolding command_of by_number
+returns-in-18 c = rw (c.new.ensures, ← c.trb_type-trb_type.ensures) (search tests)
 
 pub returns-in_default : goal.returns-in_default
-unfolding command_of
-returns-in_default c = rw (c.refuse-in_default.ensures, ← c.trb_type-trb_type.ensures) (search tests)
+unfolding command_of by_number
+returns-in_default c = rw (c.new-in_default.ensures, ← c.trb_type-trb_type.ensures) (search tests)

@@ -1,5 +1,6 @@
 -- In each arm the type that was matched is looked up.
 use Rattle.guest.proofs.Tests.{tests}
+use Rattle.guest.specs.Refusals.{by_number}
 use Rattle.trb.specs.Events.{event_of}
 use Rattle.trb.proofs.event.EventTrb.parse.Goals as goal
 
@@ -16,5 +17,5 @@ unfolding event_of
 returns-in-34 c = rw (← c.trb_type-trb_type.ensures, c.in-34.is) c.port_status_change.ensures
 
 pub returns-in_default : goal.returns-in_default
-unfolding event_of
-returns-in_default c = rw (c.refuse.ensures, ← c.trb_type-trb_type.ensures) (search tests)
+unfolding event_of by_number
+returns-in_default c = rw (c.new.ensures, ← c.trb_type-trb_type.ensures) (search tests)
