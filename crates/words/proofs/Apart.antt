@@ -6,18 +6,19 @@ use Prim.Native.Nat.{ℕ, zero, suc, ◌/◌, ◌^◌, ◌≤◌}
 use native.Mathlib.Omega.{arith}
 use lib.Dec.{eqb}
 use Rattle.guest.specs.Judge.{judge}
+use Rattle.guest.specs.Refusals.{by_number}
 use Rattle.guest.specs.Fields.{bytes_of, bytes_of_dwords, low_of, high_of, whole_of}
 use Rattle.guest.specs.declared.Dwords.{Dwords}
 use Rattle.guest.proofs.Bytes.{Bytes}
 use Rattle.guest.proofs.Fields.{whole_halves}
 use Rattle.codes.specs.Types as types
 use Rattle.codes.specs.declared.CompletionCode.{CompletionCode}
-use Rattle.codes.specs.declared.Coded.{Coded}
+use Rattle.std.specs.Prelude.{Option, Some, None}
 use Rattle.trb.specs.Events.{Typed, valid, event_dwords, event_bytes, bytes_answered}
 use Rattle.trb.specs.declared.event.EventTrb.{EventTrb}
-use Rattle.trb.specs.declared.event.EventVariant.{EventVariant}
+use Rattle.std.specs.Prelude.{Ok}
 use Rattle.trb.proofs.OneEncoding.{bytes_length}
-use Rattle.words.specs.Events.{field_of, refused_with, coded, code_in, transfer_in, command_completion_in, port_status_change_in, event_in, bytes_from, written}
+use Rattle.words.specs.Events.{field_of, Given, refused_with, coded, code_in, transfer_in, command_completion_in, port_status_change_in, event_in, bytes_from, written}
 use Rattle.words.proofs.Written.{written_yes}
 
 -- ---- an event that is written has a type, which stands above bit 42 of its high half
@@ -30,38 +31,38 @@ event_above (EventTrb.PortStatusChange t) c y v = rw (written_yes (EventTrb.Port
 
 -- ---- and a high half that is no refusal's number says that the event was accepted
 
-pub record Accepted (v : EventVariant) (c : Bool) : Type 0 where
+pub record Accepted (v : Given) (c : Bool) : Type 0 where
   pub event : EventTrb
-  pub given : v ≡ EventVariant.Event event
+  pub given : v ≡ Ok event
   pub good : valid event ≡ true
   pub trb : written (bytes_from v c) ≡ record { low = low_of (event_bytes event c); high = high_of (event_bytes event c) }
 
 -- what is to be shown of each event that can be given
-Goal : Bool → EventVariant → Type 0
+Goal : Bool → Given → Type 0
 Goal c v = 2 ^ 8 ≤ (written (bytes_from v c)).high → Accepted v c
 
-of_event_lem : (c : Bool) (e : EventTrb) → Goal c (EventVariant.Event e)
-unfolding Goal bytes_answered judge
+of_event_lem : (c : Bool) (e : EventTrb) → Goal c (Ok e)
+unfolding Goal bytes_answered judge by_number
 of_event_lem c e = go (valid e) refl
   where
-    go : (b : Bool) → valid e ≡ b → Goal c (EventVariant.Event e)
+    go : (b : Bool) → valid e ≡ b → Goal c (Ok e)
     go true v h = record { event = e; given = refl; good = v; trb = rw v }
     go false v h = absurd (omega (arith, rw v at h))
 
 refused_12 : (c : Bool) → Goal c (refused_with 12 0)
-unfolding Goal
+unfolding Goal by_number
 refused_12 c h = absurd (omega arith)
 
-of_coded : (c : Bool) (k : Coded) (f : CompletionCode → EventTrb) → Goal c (coded k f)
-of_coded c (Coded.Listed k) f = of_event_lem c (f k)
-of_coded c Coded.Unlisted f = refused_12 c
+of_coded : (c : Bool) (k : Option CompletionCode) (f : CompletionCode → EventTrb) → Goal c (coded k f)
+of_coded c (Some k) f = of_event_lem c (f k)
+of_coded c None f = refused_12 c
 
-either : (c b : Bool) (x y : EventVariant) → Goal c x → Goal c y → Goal c (cond b x y)
+either : (c b : Bool) (x y : Given) → Goal c x → Goal c y → Goal c (cond b x y)
 either c true x y p q = p
 either c false x y p q = q
 
 other : (c : Bool) (t : ℕ) → Goal c (refused_with 10 t)
-unfolding Goal
+unfolding Goal by_number
 other c t h = absurd (omega arith)
 
 pub accepted : (ws : List ℕ) (c : Bool) → 2 ^ 8 ≤ (written (bytes_from (event_in ws) c)).high → Accepted (event_in ws) c

@@ -15,7 +15,7 @@ use Rattle.codes.proofs.Codes.{code_of_number, number_lt}
 use Rattle.trb.specs.Trb.{bit, when, ◌or◌}
 use Rattle.trb.specs.Events.{pack, Typed, values_of_event}
 use Rattle.trb.specs.declared.event.EventTrb.{EventTrb}
-use Rattle.trb.specs.declared.event.EventVariant.{EventVariant}
+use Rattle.std.specs.Prelude.{Ok}
 use Rattle.trb.proofs.Pack.{cut, Fit, packed}
 use Rattle.words.specs.Events.{field_of, event_in, put_event}
 
@@ -96,7 +96,7 @@ module _ (a b c : ℕ) where
       let g = port_read t.port_id y in
       said_by_lem event_places (put_event (EventTrb.PortStatusChange t) lent) 34 _ (nth 0 g) g
 
-  pub event_back : (e : EventTrb) → Typed e → Short e → event_in (put_event e lent) ≡ EventVariant.Event e
+  pub event_back : (e : EventTrb) → Typed e → Short e → event_in (put_event e lent) ≡ Ok e
   unfolding event_in
   event_back (EventTrb.Transfer t) y l =
       let g = event_said (EventTrb.Transfer t) y l in

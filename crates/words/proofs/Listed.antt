@@ -7,13 +7,14 @@ use borrow.Author.Tests.{lt-ltb, le-ltb, eq-eqb, ne_eqb}
 use lib.Dec.{ltb}
 use Rattle.codes.specs.Codes.{number_of, code_of, class_of}
 use Rattle.codes.specs.declared.Class.{Class}
-use Rattle.codes.specs.declared.Coded.{Coded}
+use Rattle.std.specs.Prelude.{Option, Some, None}
+use Rattle.codes.specs.declared.CompletionCode.{CompletionCode}
 use Rattle.codes.proofs.Codes.{is_listed as ofClass, is_code, listed_exactly, number_of_code}
 use Rattle.trb.specs.Events.{is_listed, listed_in}
 
-same : (x : Coded) → is_listed x ≡ is_code x
-same (Coded.Listed k) = refl
-same Coded.Unlisted = refl
+same : (x : Option CompletionCode) → is_listed x ≡ is_code x
+same (Some k) = refl
+same None = refl
 
 by_class : (n : ℕ) → is_listed (code_of n) ≡ ofClass (class_of n)
 by_class n = same (code_of n) ∙ sym (listed_exactly n)
@@ -37,13 +38,13 @@ unfolding class_of
 is_above n h = rw (by_class n, ne_eqb n 30 (λ e. omega arith), le-ltb n 37 h) (others (ltb n 192) (ltb n 224))
 
 -- the code that is listed, or that none is
-pub listed_yes : (x : Coded) → is_listed x ≡ true → x ≡ Coded.Listed (listed_in x)
-listed_yes (Coded.Listed k) h = refl
-listed_yes Coded.Unlisted h = let z : ◌≡◌ {A = ℕ} 0 1 = cc in absurd (omega arith)
+pub listed_yes : (x : Option CompletionCode) → is_listed x ≡ true → x ≡ Some (listed_in x)
+listed_yes (Some k) h = refl
+listed_yes None h = let z : ◌≡◌ {A = ℕ} 0 1 = cc in absurd (omega arith)
 
-pub listed_no : (x : Coded) → is_listed x ≡ false → x ≡ Coded.Unlisted
-listed_no (Coded.Listed k) h = let z : ◌≡◌ {A = ℕ} 0 1 = cc in absurd (omega arith)
-listed_no Coded.Unlisted h = refl
+pub listed_no : (x : Option CompletionCode) → is_listed x ≡ false → x ≡ None
+listed_no (Some k) h = let z : ◌≡◌ {A = ℕ} 0 1 = cc in absurd (omega arith)
+listed_no None h = refl
 
 -- its number is the number that it was found by
 pub listed_back : (n : ℕ) → is_listed (code_of n) ≡ true → number_of (listed_in (code_of n)) ≡ n

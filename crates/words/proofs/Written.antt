@@ -9,15 +9,16 @@ use borrow.Author.Tests.{lt-ltb, le-ltb, eq-eqb, ne_eqb}
 use lib.Dec.{eqb}
 use lib.ListN.{get_or}
 use Rattle.guest.specs.Judge.{judge}
+use Rattle.guest.specs.Refusals.{by_number}
 use Rattle.guest.specs.Fields.{bits, bytes_of_dwords}
 use Rattle.guest.specs.declared.Dwords.{Dwords}
 use Rattle.guest.proofs.Fields.{split_join, halves}
 use Rattle.codes.specs.Codes.{number_of}
 use Rattle.codes.specs.declared.CompletionCode.{CompletionCode}
-use Rattle.codes.specs.declared.Coded.{Coded}
+use Rattle.std.specs.Prelude.{Some, None}
 use Rattle.trb.specs.Events.{Typed, valid, pack, in_code, in_transfer, in_command_completion, in_port_status_change, event_dwords, bytes_answered}
 use Rattle.trb.specs.declared.event.EventTrb.{EventTrb}
-use Rattle.trb.specs.declared.event.EventVariant.{EventVariant}
+use Rattle.std.specs.Prelude.{Ok}
 use Rattle.trb.proofs.Raw.{flag_is}
 use Rattle.trb.proofs.OneEncoding.{dwords_sized}
 use Rattle.words.specs.Events.{field_of, coded, code_in, transfer_in, command_completion_in, port_status_change_in, bytes_from, written}
@@ -35,7 +36,7 @@ written_yes e c y v =
     rw (v, h.0, h.1) (ap joined (split_join d (dwords_sized e c y v)))
 
 pub written_no : (e : EventTrb) (c : Bool) → valid e ≡ false → written (bytes_answered e c) ≡ record { low = 0; high = 8 }
-unfolding bytes_answered judge
+unfolding bytes_answered judge by_number
 written_no e c v = rw v
 
 -- ---- the sums that the code makes, over any numbers
@@ -71,10 +72,11 @@ module _ (ws : List ℕ) (cycle : ℕ) where
   n_is : field_of ws 2 0 32 ≡ n
   n_is = rw div-one
 
-  pub unlisted : (f : CompletionCode → EventTrb) → code_in ws ≡ Coded.Unlisted → trb 0 12 ≡ written (bytes_from (coded (code_in ws) f) c)
+  pub unlisted : (f : CompletionCode → EventTrb) → code_in ws ≡ None → trb 0 12 ≡ written (bytes_from (coded (code_in ws) f) c)
+  unfolding by_number
   unlisted f e = rw e
 
-  module _ (k : CompletionCode) (e : code_in ws ≡ Coded.Listed k) where
+  module _ (k : CompletionCode) (e : code_in ws ≡ Some k) where
     pub transfer_no : 2 ^ 24 ≤ n → trb 0 8 ≡ written (bytes_from (coded (code_in ws) (transfer_in ws)) c)
     unfolding valid
     transfer_no h = rw e (sym (written_no (transfer_in ws k) c (rw n_is (le-ltb _ _ h))))
@@ -107,7 +109,7 @@ module _ (ws : List ℕ) (cycle : ℕ) where
           ∙ ap₂ trb (pointer (get_or ws 1 0) p)
           (rw (num, flag_is cycle, n_is) (command_sum n (field_of ws 2 32 8) (cycle % 2) (field_of ws 2 40 8)))))
 
-  pub port_yes : trb (field_of ws 0 8 8 * 2 ^ 24) (0x100_0000 + (cycle % 2 + 0x8800) * 2 ^ 32) ≡ written (bytes_from (EventVariant.Event (port_status_change_in ws)) c)
+  pub port_yes : trb (field_of ws 0 8 8 * 2 ^ 24) (0x100_0000 + (cycle % 2 + 0x8800) * 2 ^ 32) ≡ written (bytes_from (Ok (port_status_change_in ws)) c)
   unfolding valid event_dwords number_of
   port_yes =
       sym (written_yes (port_status_change_in ws) c (omega arith) refl

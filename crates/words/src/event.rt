@@ -1,17 +1,15 @@
 // An event as three words, written as a TRB and read back. The code stays a number here, which saves the way through the enum of codes.
-ghost use Rattle.std.specs.Prelude.{◌≡◌, Bool, ◌+◌, ◌*◌, ◌%◌, ◌^◌, ◌<◌, eqb};
+ghost use Rattle.std.specs.Prelude.{◌≡◌, Ok, Err, Bool, ◌+◌, ◌*◌, ◌%◌, ◌^◌, ◌<◌, eqb};
 ghost use Rattle.guest.specs.Fields.{whole_of};
 ghost use Rattle.codes.specs.Codes.{code_of};
-ghost use Rattle.trb.specs.Events.{is_listed, transfer_as, command_completion_as, port_status_change_as, event_of, number_of_variant};
-ghost use Rattle.trb.specs.declared.event.EventVariant.{EventVariant};
-ghost use Rattle.words.specs.Events.{refused_with, coded, code_in, transfer_in, command_completion_in, port_status_change_in, event_in, bytes_from, written, put_variant, refusal_shown};
+ghost use Rattle.trb.specs.Events.{is_listed, transfer_as, command_completion_as, port_status_change_as, event_of};
+ghost use Rattle.words.specs.Events.{refused_with, coded, code_in, transfer_in, command_completion_in, port_status_change_in, event_in, bytes_from, written, put_variant, refusal_shown, number_of_given};
 
-use codes::{Coded, trb_types};
-use guest::refusal;
+use codes::trb_types;
+use guest::refusal::Refusal;
 use trb::TrbParseError;
 use trb::event::{
-    CommandCompletionEventTrbData, EventTrb, EventVariant, PortStatusChangeEventTrbData,
-    TransferEventTrbData,
+    CommandCompletionEventTrbData, EventTrb, PortStatusChangeEventTrbData, TransferEventTrbData,
 };
 
 // A TRB as two numbers; or, where the event is refused, 0 and the refusal's number.
@@ -33,12 +31,12 @@ fn listed(code: u32) -> bool
 
 // ---- written
 
-fn refused(number: u8) -> CTrb
-    ensures { result ≡ record { low = 0; high = number } }
+fn refused(refusal: Refusal) -> CTrb
+    ensures { result ≡ written (Err refusal) }
 {
     CTrb {
         low: 0,
-        high: number as u64,
+        high: refusal.number() as u64,
     }
 }
 
@@ -58,11 +56,11 @@ fn transfer_written(event: &[u64; 3], cycle: u64) -> CTrb
     let w = event[2];
     let code = (w / 0x1_0000_0000 % 0x100) as u32;
     if !listed(code) {
-        return refused(refusal::CODE);
+        return refused(Refusal::Code);
     }
     let length = (w % 0x1_0000_0000) as u32;
     if 0x100_0000 <= length {
-        return refused(refusal::EVENT);
+        return refused(Refusal::Event);
     }
     joined(
         event[1],
@@ -81,15 +79,15 @@ fn command_completion_written(event: &[u64; 3], cycle: u64) -> CTrb
     let w = event[2];
     let code = (w / 0x1_0000_0000 % 0x100) as u32;
     if !listed(code) {
-        return refused(refusal::CODE);
+        return refused(Refusal::Code);
     }
     let pointer = event[1];
     if pointer % 16 != 0 {
-        return refused(refusal::EVENT);
+        return refused(Refusal::Event);
     }
     let length = (w % 0x1_0000_0000) as u32;
     if 0x100_0000 <= length {
-        return refused(refusal::EVENT);
+        return refused(Refusal::Event);
     }
     joined(
         pointer,
@@ -99,7 +97,7 @@ fn command_completion_written(event: &[u64; 3], cycle: u64) -> CTrb
 }
 
 fn port_status_change_written(event: &[u64; 3], cycle: u64) -> CTrb
-    ensures { result ≡ written (bytes_from (EventVariant.Event (port_status_change_in event.now)) (eqb (cycle % 2) 1)) }
+    ensures { result ≡ written (bytes_from (Ok (port_status_change_in event.now)) (eqb (cycle % 2) 1)) }
 {
     CTrb {
         low: event[0] / 0x100 % 0x100 * 0x100_0000,
@@ -118,67 +116,71 @@ pub fn bytes(event: &[u64; 3], cycle: u64) -> CTrb
     match trb_type {
         trb_types::PORT_STATUS_CHANGE_EVENT => port_status_change_written(event, cycle),
         trb_types::COMMAND_COMPLETION_EVENT => command_completion_written(event, cycle),
-        _ => refused(refusal::TYPE),
+        _ => refused(Refusal::Type),
     }
 }
 
 // ---- read: 0, with the event's words; or the refusal, with the words as they were
 
 fn transfer_read(out: &mut [u64; 3], low: u64, high: u64) -> u16
-    ensures { (result ≡ refusal_shown (transfer_as (whole_of low high)).variant) × (out.new ≡ put_variant (transfer_as (whole_of low high)).variant out.old) }
+    ensures { (result ≡ refusal_shown (transfer_as (whole_of low high))) × (out.new ≡ put_variant (transfer_as (whole_of low high)) out.old) }
 {
     let d2 = high % 0x1_0000_0000;
     let d3 = high / 0x1_0000_0000 % 0x1_0000_0000;
     let code = d2 / 0x100_0000 % 0x100;
     if !listed(code as u32) {
-        return refusal::CODE as u16;
+        return Refusal::Code.number() as u16;
     }
     if !((d3 / 2 % 2 == 0) & (d3 / 8 % 0x80 == 0)) {
-        return refusal::RESERVED as u16;
+        return Refusal::Reserved.number() as u16;
     }
-    crate::three(
+    crate::put(
         out,
-        trb_types::TRANSFER_EVENT as u64,
-        low,
-        d2 % 0x100_0000
-            + code * 0x1_0000_0000
-            + d3 / 4 % 2 * 0x100_0000_0000
-            + d3 / 0x1_0000 % 0x100 * 0x1_0000_0000_0000
-            + d3 / 0x100_0000 % 0x100 * 0x100_0000_0000_0000,
+        &[
+            trb_types::TRANSFER_EVENT as u64,
+            low,
+            d2 % 0x100_0000
+                + code * 0x1_0000_0000
+                + d3 / 4 % 2 * 0x100_0000_0000
+                + d3 / 0x1_0000 % 0x100 * 0x1_0000_0000_0000
+                + d3 / 0x100_0000 % 0x100 * 0x100_0000_0000_0000,
+        ],
     );
     0
 }
 
 fn command_completion_read(out: &mut [u64; 3], low: u64, high: u64) -> u16
-    ensures { (result ≡ refusal_shown (command_completion_as (whole_of low high)).variant) × (out.new ≡ put_variant (command_completion_as (whole_of low high)).variant out.old) }
+    ensures { (result ≡ refusal_shown (command_completion_as (whole_of low high))) × (out.new ≡ put_variant (command_completion_as (whole_of low high)) out.old) }
 {
     let d2 = high % 0x1_0000_0000;
     let d3 = high / 0x1_0000_0000 % 0x1_0000_0000;
     let code = d2 / 0x100_0000 % 0x100;
     if !listed(code as u32) {
-        return refusal::CODE as u16;
+        return Refusal::Code.number() as u16;
     }
     if !((low % 0x10 == 0) & (d3 / 2 % 0x200 == 0) & (d3 / 0x1_0000 % 0x100 == 0)) {
-        return refusal::RESERVED as u16;
+        return Refusal::Reserved.number() as u16;
     }
-    crate::three(
+    crate::put(
         out,
-        trb_types::COMMAND_COMPLETION_EVENT as u64,
-        low,
-        d2 % 0x100_0000 + code * 0x1_0000_0000 + d3 / 0x100_0000 % 0x100 * 0x100_0000_0000,
+        &[
+            trb_types::COMMAND_COMPLETION_EVENT as u64,
+            low,
+            d2 % 0x100_0000 + code * 0x1_0000_0000 + d3 / 0x100_0000 % 0x100 * 0x100_0000_0000,
+        ],
     );
     0
 }
 
 fn port_status_change_read(out: &mut [u64; 3], low: u64, high: u64) -> u16
-    ensures { (result ≡ refusal_shown (port_status_change_as (whole_of low high)).variant) × (out.new ≡ put_variant (port_status_change_as (whole_of low high)).variant out.old) }
+    ensures { (result ≡ refusal_shown (port_status_change_as (whole_of low high))) × (out.new ≡ put_variant (port_status_change_as (whole_of low high)) out.old) }
 {
     let d0 = low % 0x1_0000_0000;
     let d1 = low / 0x1_0000_0000 % 0x1_0000_0000;
     let d2 = high % 0x1_0000_0000;
     let d3 = high / 0x1_0000_0000 % 0x1_0000_0000;
     if d2 / 0x100_0000 % 0x100 != 1 {
-        return refusal::CODE as u16;
+        return Refusal::Code.number() as u16;
     }
     if !((d0 % 0x100_0000 == 0)
         & (d1 == 0)
@@ -186,11 +188,11 @@ fn port_status_change_read(out: &mut [u64; 3], low: u64, high: u64) -> u16
         & (d3 / 2 % 0x200 == 0)
         & (d3 / 0x1_0000 % 0x1_0000 == 0))
     {
-        return refusal::RESERVED as u16;
+        return Refusal::Reserved.number() as u16;
     }
-    crate::one(
+    crate::put(
         out,
-        (trb_types::PORT_STATUS_CHANGE_EVENT as u64) + d0 / 0x100_0000 % 0x100 * 0x100,
+        &[(trb_types::PORT_STATUS_CHANGE_EVENT as u64) + d0 / 0x100_0000 % 0x100 * 0x100],
     );
     0
 }
@@ -198,33 +200,30 @@ fn port_status_change_read(out: &mut [u64; 3], low: u64, high: u64) -> u16
 // The event that the two halves of a TRB say, put into the words that are lent; answers 0. Or the refusal, with the type above it where
 // the refusal is 10.
 pub fn parse(out: &mut [u64; 3], low: u64, high: u64) -> u16
-    ensures { (result ≡ refusal_shown (event_of (whole_of low high)).variant) × (out.new ≡ put_variant (event_of (whole_of low high)).variant out.old) }
+    ensures { (result ≡ refusal_shown (event_of (whole_of low high))) × (out.new ≡ put_variant (event_of (whole_of low high)) out.old) }
 {
     let trb_type = (high / 0x1_0000_0000 % 0x1_0000_0000 / 0x400 % 0x40) as u8;
     match trb_type {
         trb_types::TRANSFER_EVENT => transfer_read(out, low, high),
         trb_types::COMMAND_COMPLETION_EVENT => command_completion_read(out, low, high),
         trb_types::PORT_STATUS_CHANGE_EVENT => port_status_change_read(out, low, high),
-        _ => (refusal::TYPE as u16) + (trb_type as u16) * 0x100,
+        _ => (Refusal::Type.number() as u16) + (trb_type as u16) * 0x100,
     }
 }
 
 // ---- given, by value
 
-fn refuse(number: u8, trb_type: u8) -> EventVariant
-    ensures { result ≡ refused_with number trb_type }
-{
-    EventVariant::Unrecognized(TrbParseError { number, trb_type })
-}
-
-fn transfer_given(event: &[u64; 3]) -> EventVariant
+fn transfer_given(event: &[u64; 3]) -> Result<EventTrb, TrbParseError>
     ensures { result ≡ coded (code_in event.now) (transfer_in event.now) }
 {
     let w = event[2];
-    let Coded::Listed(completion_code) = codes::code_of((w / 0x1_0000_0000 % 0x100) as u8) else {
-        return refuse(refusal::CODE, 0);
+    let Some(completion_code) = codes::code_of((w / 0x1_0000_0000 % 0x100) as u8) else {
+        return Err(TrbParseError {
+            refusal: Refusal::Code,
+            trb_type: 0,
+        });
     };
-    EventVariant::Event(EventTrb::Transfer(TransferEventTrbData {
+    Ok(EventTrb::Transfer(TransferEventTrbData {
         trb_pointer: event[1],
         trb_transfer_length: (w % 0x1_0000_0000) as u32,
         completion_code,
@@ -234,14 +233,17 @@ fn transfer_given(event: &[u64; 3]) -> EventVariant
     }))
 }
 
-fn command_completion_given(event: &[u64; 3]) -> EventVariant
+fn command_completion_given(event: &[u64; 3]) -> Result<EventTrb, TrbParseError>
     ensures { result ≡ coded (code_in event.now) (command_completion_in event.now) }
 {
     let w = event[2];
-    let Coded::Listed(completion_code) = codes::code_of((w / 0x1_0000_0000 % 0x100) as u8) else {
-        return refuse(refusal::CODE, 0);
+    let Some(completion_code) = codes::code_of((w / 0x1_0000_0000 % 0x100) as u8) else {
+        return Err(TrbParseError {
+            refusal: Refusal::Code,
+            trb_type: 0,
+        });
     };
-    EventVariant::Event(EventTrb::CommandCompletion(CommandCompletionEventTrbData {
+    Ok(EventTrb::CommandCompletion(CommandCompletionEventTrbData {
         command_trb_pointer: event[1],
         command_completion_parameter: (w % 0x1_0000_0000) as u32,
         completion_code,
@@ -249,28 +251,31 @@ fn command_completion_given(event: &[u64; 3]) -> EventVariant
     }))
 }
 
-pub fn given(event: &[u64; 3]) -> EventVariant
+pub fn given(event: &[u64; 3]) -> Result<EventTrb, TrbParseError>
     ensures { result ≡ event_in event.now }
 {
     let trb_type = (event[0] % 0x100) as u8;
     match trb_type {
         trb_types::TRANSFER_EVENT => transfer_given(event),
         trb_types::COMMAND_COMPLETION_EVENT => command_completion_given(event),
-        trb_types::PORT_STATUS_CHANGE_EVENT => EventVariant::Event(EventTrb::PortStatusChange(
+        trb_types::PORT_STATUS_CHANGE_EVENT => Ok(EventTrb::PortStatusChange(
             PortStatusChangeEventTrbData {
                 port_id: (event[0] / 0x100 % 0x100) as u8,
             },
         )),
-        _ => refuse(refusal::TYPE, trb_type),
+        _ => Err(TrbParseError {
+            refusal: Refusal::Type,
+            trb_type,
+        }),
     }
 }
 
-// The number of a refusal, 0 for an event.
-pub fn number(variant: EventVariant) -> u8
-    ensures { result ≡ number_of_variant variant }
+// The number of what refuses a given event, 0 where nothing does.
+pub fn number(given: Result<EventTrb, TrbParseError>) -> u8
+    ensures { result ≡ number_of_given given }
 {
-    match variant {
-        EventVariant::Event(_) => 0,
-        EventVariant::Unrecognized(e) => e.number,
+    match given {
+        Ok(_) => 0,
+        Err(e) => e.refusal.number(),
     }
 }

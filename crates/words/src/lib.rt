@@ -3,27 +3,13 @@
 
 pub mod event;
 
-ghost use Rattle.std.specs.Prelude.{◌≡◌, ◌<◌};
-ghost use Rattle.trb.specs.Trb.{bit};
-ghost use Rattle.words.specs.Lent.{one, three};
+ghost use Rattle.std.specs.Prelude.{◌≡◌};
+ghost use Rattle.words.specs.Lent.{put};
 
-// A flag as a number.
-pub fn bit(b: bool) -> u64
-    ensures { (result ≡ bit b) × (result < 2) }
+// Sets as many of the lent words as are given, from the first on.
+pub fn put<const N: usize>(out: &mut [u64; N], words: &[u64])
+    ensures { out.new ≡ put words.now out.old }
 {
-    if b { 1 } else { 0 }
-}
-
-pub fn one(out: &mut [u64; 3], a: u64)
-    ensures { out.new ≡ one a out.old }
-{
-    out[0] = a;
-}
-
-pub fn three(out: &mut [u64; 3], a: u64, b: u64, c: u64)
-    ensures { out.new ≡ three a b c out.old }
-{
-    out[0] = a;
-    out[1] = b;
-    out[2] = c;
+    let n = words.len().min(N);
+    out[..n].copy_from_slice(&words[..n]);
 }

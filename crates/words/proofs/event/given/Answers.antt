@@ -1,6 +1,7 @@
 -- By the type.
 use Rattle.std.proofs.Common.{div-one}
 use Rattle.guest.proofs.Tests.{tests}
+use Rattle.guest.specs.Refusals.{by_number}
 use Rattle.words.specs.Events.{event_in}
 use Rattle.words.proofs.event.given.Goals as goal
 
@@ -17,5 +18,5 @@ unfolding event_in
 returns-in-34 c = rw (div-one, c.in-34.is)
 
 pub returns-in_default : goal.returns-in_default
-unfolding event_in
-returns-in_default c = rw (c.refuse.ensures, div-one) (search tests)
+unfolding event_in by_number
+returns-in_default c = rw div-one (search tests)
