@@ -6,12 +6,16 @@ use Prim.{tt}
 use lib.Dec.{lit<}
 use borrow.Author.Tests.{ne_eqb}
 use Rattle.guest.specs.Faults.{Not, FirstOf, none, this, later, Inside}
+use Rattle.std.specs.Prelude.{Err}
 use Rattle.guest.specs.Judge.{judge}
+use Rattle.guest.specs.Refusals.{number_of}
+use Rattle.guest.specs.declared.refusal.Refusal.{Refusal}
+use Rattle.guest.proofs.Numbers.{refusal_lt, as_result_number}
 use Rattle.guest.specs.Memory.{Memory, inside, offset, part}
 use Rattle.guest.proofs.Faults.{asks, says_inside}
 use Rattle.guest.proofs.Judge.{Numbered, none_passes, judge_passes, judge_number}
 use Rattle.guest.proofs.Memory.{Within, inside_within}
-use Rattle.trb.specs.Data.{data_tests, data_faults, data_refusal, data_of, data_offset}
+use Rattle.trb.specs.Data.{data_tests, data_faults, data_refusal, data_answer, data_of, data_offset}
 use Rattle.trb.specs.declared.data.TrbDmaInfo.{TrbDmaInfo}
 
 numbered : (m : Memory) (i : TrbDmaInfo) → Numbered (data_tests m i)
@@ -43,6 +47,11 @@ withheld m i n =
       bytes = judge_number (data_tests m i) _ _ (numbered m i) ∙ rw (ne_eqb _ 0 n);
       offset = judge_number (data_tests m i) _ _ (numbered m i) ∙ rw (ne_eqb _ 0 n);
     }
+
+-- an answer's refusal has that number
+pub data_number : (m : Memory) (i : TrbDmaInfo) (r : Refusal) → data_answer m i ≡ Err r → number_of r ≡ data_refusal m i
+unfolding data_refusal
+data_number m i r e = as_result_number _ tt r (refusal_lt (data_tests m i) (lit< tt, (lit< tt, tt))) e
 
 -- it is refused exactly as document 01 says
 pub data_refused : (m : Memory) (i : TrbDmaInfo) → FirstOf (data_faults m i) (data_refusal m i)

@@ -11,10 +11,12 @@ use lib.ListN.{length, get_or}
 use Rattle.guest.specs.Bytes.{part}
 use Rattle.guest.specs.Memory.{Memory}
 use Rattle.guest.proofs.Bytes.{part_length}
-use Rattle.trb.specs.Trb.{bit, when, ◌or◌, one_of}
+use Rattle.guest.specs.Refusals.{number_of}
+use Rattle.trb.specs.Trb.{Parsed, bit, when, ◌or◌, one_of}
 use Rattle.trb.specs.Commands as commands
 use Rattle.trb.specs.Transfers as transfers
-use Rattle.trb.specs.declared.TrbParseError.{TrbParseError}
+use Rattle.trb.specs.declared.Unrecognized.{Unrecognized}
+use Rattle.guest.proofs.Numbers.{number_lt}
 use Rattle.trb.specs.declared.command.CommandTrbVariant.{CommandTrbVariant}
 use Rattle.trb.specs.declared.transfer.TransferTrbVariant.{TransferTrbVariant}
 use Rattle.trb.specs.Data.{data_of}
@@ -23,7 +25,8 @@ use Rattle.trb.proofs.Pack.{cut}
 use Rattle.trb.proofs.Parts.{given}
 use Rattle.words.proofs.Back.{bytes_in, numbers_at, said_by, said_by_lem, read, nth, word, bit_lt}
 use Rattle.trb_ffi.specs.Commands as command
-use Rattle.trb.specs.declared.link.LinkOrOther.{LinkOrOther}
+use Rattle.trb.specs.declared.link.LinkTrb.{LinkTrb}
+use Rattle.std.specs.Prelude.{Option, Some, None, Ok, Err}
 use Rattle.trb_ffi.specs.Transfers as transfer
 use Rattle.trb_ffi.specs.Parts.{flat_link, part_of}
 use Rattle.trb_ffi.specs.declared.parts.CLink.{CLink}
@@ -39,21 +42,21 @@ three_read k e s h i j = read (8 ∷ 8 ∷ 8 ∷ []) (k ∷ e ∷ s ∷ []) (k +
 -- ---- commands
 
 -- the fields are of their types in the code
-abbrev pub CommandTyped : CommandTrbVariant → Type 0
-CommandTyped CommandTrbVariant.NoOp = Unit
-CommandTyped CommandTrbVariant.EnableSlot = Unit
-CommandTyped (CommandTrbVariant.DisableSlot d) = d.slot_id < 2 ^ 8
-CommandTyped (CommandTrbVariant.AddressDevice d) = (d.input_context_pointer < 2 ^ 64) × (d.slot_id < 2 ^ 8)
-CommandTyped (CommandTrbVariant.ConfigureEndpoint d) = (d.input_context_pointer < 2 ^ 64) × (d.slot_id < 2 ^ 8)
-CommandTyped (CommandTrbVariant.EvaluateContext d) = (d.input_context_pointer < 2 ^ 64) × (d.slot_id < 2 ^ 8)
-CommandTyped (CommandTrbVariant.ResetEndpoint d) = (d.endpoint_id < 2 ^ 8) × (d.slot_id < 2 ^ 8)
-CommandTyped (CommandTrbVariant.StopEndpoint d) = (d.endpoint_id < 2 ^ 8) × (d.slot_id < 2 ^ 8)
-CommandTyped (CommandTrbVariant.SetTrDequeuePointer d) =
+abbrev pub CommandTyped : Parsed CommandTrbVariant → Type 0
+CommandTyped (Ok CommandTrbVariant.NoOp) = Unit
+CommandTyped (Ok CommandTrbVariant.EnableSlot) = Unit
+CommandTyped (Ok (CommandTrbVariant.DisableSlot d)) = d.slot_id < 2 ^ 8
+CommandTyped (Ok (CommandTrbVariant.AddressDevice d)) = (d.input_context_pointer < 2 ^ 64) × (d.slot_id < 2 ^ 8)
+CommandTyped (Ok (CommandTrbVariant.ConfigureEndpoint d)) = (d.input_context_pointer < 2 ^ 64) × (d.slot_id < 2 ^ 8)
+CommandTyped (Ok (CommandTrbVariant.EvaluateContext d)) = (d.input_context_pointer < 2 ^ 64) × (d.slot_id < 2 ^ 8)
+CommandTyped (Ok (CommandTrbVariant.ResetEndpoint d)) = (d.endpoint_id < 2 ^ 8) × (d.slot_id < 2 ^ 8)
+CommandTyped (Ok (CommandTrbVariant.StopEndpoint d)) = (d.endpoint_id < 2 ^ 8) × (d.slot_id < 2 ^ 8)
+CommandTyped (Ok (CommandTrbVariant.SetTrDequeuePointer d)) =
     (d.dequeue_pointer < 2 ^ 64) × (d.stream_id < 2 ^ 16) × (d.endpoint_id < 2 ^ 8) × (d.slot_id < 2 ^ 8)
     × (d.stream_context_type < 2 ^ 8)
-CommandTyped (CommandTrbVariant.ResetDevice d) = d.slot_id < 2 ^ 8
-CommandTyped CommandTrbVariant.ForceHeader = Unit
-CommandTyped (CommandTrbVariant.Unrecognized e) = (e.number < 2 ^ 8) × (e.trb_type < 2 ^ 8)
+CommandTyped (Ok (CommandTrbVariant.ResetDevice d)) = d.slot_id < 2 ^ 8
+CommandTyped (Ok CommandTrbVariant.ForceHeader) = Unit
+CommandTyped (Err u) = u.error.trb_type < 2 ^ 8
 
 -- where the words of each type have it, then document 01's fields in their order; 0 is a refusal's, which has its number and the type
 abbrev pub command_places : ℕ → List (ℕ × ℕ)
@@ -68,16 +71,16 @@ command_places t =
 
 -- ---- TRBs of a transfer ring
 
-abbrev pub TransferTyped : TransferTrbVariant → Type 0
-TransferTyped (TransferTrbVariant.Normal d) = (d.data_pointer < 2 ^ 64) × (d.transfer_length < 2 ^ 32)
-TransferTyped (TransferTrbVariant.SetupStage d) =
+abbrev pub TransferTyped : Parsed TransferTrbVariant → Type 0
+TransferTyped (Ok (TransferTrbVariant.Normal d)) = (d.data_pointer < 2 ^ 64) × (d.transfer_length < 2 ^ 32)
+TransferTyped (Ok (TransferTrbVariant.SetupStage d)) =
     (d.request_type < 2 ^ 8) × (d.request < 2 ^ 8) × (d.value < 2 ^ 16) × (d.index < 2 ^ 16) × (d.length < 2 ^ 16)
-TransferTyped (TransferTrbVariant.DataStage d) = (d.data_pointer < 2 ^ 64) × (d.transfer_length < 2 ^ 32)
-TransferTyped (TransferTrbVariant.StatusStage d) = Unit
-TransferTyped TransferTrbVariant.Isoch = Unit
-TransferTyped (TransferTrbVariant.EventData d) = d.event_data < 2 ^ 64
-TransferTyped (TransferTrbVariant.NoOp d) = Unit
-TransferTyped (TransferTrbVariant.Unrecognized e) = (e.number < 2 ^ 8) × (e.trb_type < 2 ^ 8)
+TransferTyped (Ok (TransferTrbVariant.DataStage d)) = (d.data_pointer < 2 ^ 64) × (d.transfer_length < 2 ^ 32)
+TransferTyped (Ok (TransferTrbVariant.StatusStage d)) = Unit
+TransferTyped (Ok TransferTrbVariant.Isoch) = Unit
+TransferTyped (Ok (TransferTrbVariant.EventData d)) = d.event_data < 2 ^ 64
+TransferTyped (Ok (TransferTrbVariant.NoOp d)) = Unit
+TransferTyped (Err u) = u.error.trb_type < 2 ^ 8
 
 abbrev pub transfer_places : ℕ → List (ℕ × ℕ)
 transfer_places t =
@@ -142,47 +145,47 @@ module _ (low high : ℕ) (l : low < 2 ^ 64) (h : high < 2 ^ 64) (a b c : ℕ) w
   abbrev lent : List ℕ
   lent = a ∷ b ∷ c ∷ []
 
-  pub command_said : (v : CommandTrbVariant) → CommandTyped v → said_by command_places (command.put v low high lent) ≡ commands.values_of v
-  command_said CommandTrbVariant.NoOp y = refl
-  command_said CommandTrbVariant.EnableSlot y = refl
-  command_said (CommandTrbVariant.DisableSlot d) y =
-      let v = CommandTrbVariant.DisableSlot d in
+  pub command_said : (v : Parsed CommandTrbVariant) → CommandTyped v → said_by command_places (command.put v low high lent) ≡ commands.values_of v
+  command_said (Ok CommandTrbVariant.NoOp) y = refl
+  command_said (Ok CommandTrbVariant.EnableSlot) y = refl
+  command_said (Ok (CommandTrbVariant.DisableSlot d)) y =
+      let v : Parsed CommandTrbVariant = Ok (CommandTrbVariant.DisableSlot d) in
       let g = two_read 10 d.slot_id (omega arith) y in
       said_by_lem command_places (command.put v low high lent) 10 _ (nth 0 g) g
-  command_said (CommandTrbVariant.AddressDevice d) y =
+  command_said (Ok (CommandTrbVariant.AddressDevice d)) y =
       ap₂ (λ (p : ℕ) (xs : List ℕ). 11 ∷ p ∷ get_or xs 1 0 ∷ get_or xs 0 0 ∷ []) (word d.input_context_pointer y.0)
       (two_read d.slot_id (bit d.block_set_address_request) y.1 (bit_lt d.block_set_address_request))
-  command_said (CommandTrbVariant.ConfigureEndpoint d) y =
+  command_said (Ok (CommandTrbVariant.ConfigureEndpoint d)) y =
       ap₂ (λ (p : ℕ) (xs : List ℕ). 12 ∷ p ∷ get_or xs 1 0 ∷ get_or xs 0 0 ∷ []) (word d.input_context_pointer y.0)
       (two_read d.slot_id (bit d.deconfigure) y.1 (bit_lt d.deconfigure))
-  command_said (CommandTrbVariant.EvaluateContext d) y =
+  command_said (Ok (CommandTrbVariant.EvaluateContext d)) y =
       ap₂ (λ (p : ℕ) (xs : List ℕ). 13 ∷ p ∷ xs) (word d.input_context_pointer y.0)
       (read (8 ∷ []) (d.slot_id ∷ []) d.slot_id (omega arith) (y.1, tt))
-  command_said (CommandTrbVariant.ResetEndpoint d) y =
-      let v = CommandTrbVariant.ResetEndpoint d in
+  command_said (Ok (CommandTrbVariant.ResetEndpoint d)) y =
+      let v : Parsed CommandTrbVariant = Ok (CommandTrbVariant.ResetEndpoint d) in
       let g = three_read 14 d.endpoint_id d.slot_id (omega arith) y.0 y.1 in
       said_by_lem command_places (command.put v low high lent) 14 _ (nth 0 g) g
-  command_said (CommandTrbVariant.StopEndpoint d) y =
-      let v = CommandTrbVariant.StopEndpoint d in
+  command_said (Ok (CommandTrbVariant.StopEndpoint d)) y =
+      let v : Parsed CommandTrbVariant = Ok (CommandTrbVariant.StopEndpoint d) in
       let g = three_read 15 d.endpoint_id d.slot_id (omega arith) y.0 y.1 in
       said_by_lem command_places (command.put v low high lent) 15 _ (nth 0 g) g
-  command_said (CommandTrbVariant.SetTrDequeuePointer d) y =
+  command_said (Ok (CommandTrbVariant.SetTrDequeuePointer d)) y =
       ap₂ (λ (p : ℕ) (xs : List ℕ). 16 ∷ get_or xs 3 0 ∷ get_or xs 4 0 ∷ p ∷ get_or xs 0 0 ∷ get_or xs 1 0 ∷ get_or xs 2 0 ∷ []) (word d.dequeue_pointer y.0)
       (read (16 ∷ 8 ∷ 8 ∷ 8 ∷ 8 ∷ []) (d.stream_id ∷ d.endpoint_id ∷ d.slot_id ∷ bit d.dequeue_cycle_state ∷ d.stream_context_type ∷ []) _ (omega arith)
       (y.1, (y.2, (y.3, (bit_lt d.dequeue_cycle_state, (y.4, tt))))))
-  command_said (CommandTrbVariant.ResetDevice d) y =
-      let v = CommandTrbVariant.ResetDevice d in
+  command_said (Ok (CommandTrbVariant.ResetDevice d)) y =
+      let v : Parsed CommandTrbVariant = Ok (CommandTrbVariant.ResetDevice d) in
       let g = two_read 17 d.slot_id (omega arith) y in
       said_by_lem command_places (command.put v low high lent) 17 _ (nth 0 g) g
-  command_said CommandTrbVariant.ForceHeader y = refl
-  command_said (CommandTrbVariant.Unrecognized e) y =
-      let v = CommandTrbVariant.Unrecognized e in
-      let k = refused_kind [] e.number e.trb_type y.0 y.1 in
-      said_by_lem command_places (command.put v low high lent) 0 _ k (refused_said [] e.number e.trb_type y.0 y.1)
+  command_said (Ok CommandTrbVariant.ForceHeader) y = refl
+  command_said (Err u) y =
+      let v : Parsed CommandTrbVariant = Err u in
+      let k = refused_kind [] (number_of u.error.refusal) u.error.trb_type (number_lt u.error.refusal) y in
+      said_by_lem command_places (command.put v low high lent) 0 _ k (refused_said [] (number_of u.error.refusal) u.error.trb_type (number_lt u.error.refusal) y)
 
-  pub command_raw : (e : TrbParseError) → CommandTyped (CommandTrbVariant.Unrecognized e)
-      → raw_in (command.put (CommandTrbVariant.Unrecognized e) low high lent) ≡ low ∷ high ∷ []
-  command_raw e y = refused_raw [] e.number e.trb_type y.0 y.1
+  pub command_raw : (u : Unrecognized) → CommandTyped (Err u)
+      → raw_in (command.put (Err u) low high lent) ≡ low ∷ high ∷ []
+  command_raw u y = refused_raw [] (number_of u.error.refusal) u.error.trb_type (number_lt u.error.refusal) y
 
   -- ---- TRBs of a transfer ring
 
@@ -190,50 +193,50 @@ module _ (low high : ℕ) (l : low < 2 ^ 64) (h : high < 2 ^ 64) (a b c : ℕ) w
     abbrev four : List ℕ
     four = a ∷ b ∷ c ∷ d ∷ []
 
-    pub transfer_said : (v : TransferTrbVariant) → TransferTyped v → said_by transfer_places (transfer.put v low high four) ≡ transfers.values_of v
-    transfer_said (TransferTrbVariant.Normal x) y =
+    pub transfer_said : (v : Parsed TransferTrbVariant) → TransferTyped v → said_by transfer_places (transfer.put v low high four) ≡ transfers.values_of v
+    transfer_said (Ok (TransferTrbVariant.Normal x)) y =
         ap₂ (λ (p : ℕ) (xs : List ℕ). 1 ∷ p ∷ get_or xs 0 0 ∷ get_or xs 4 0 ∷ get_or xs 1 0 ∷ get_or xs 2 0 ∷ get_or xs 3 0 ∷ []) (word x.data_pointer y.0)
         (length_read x.transfer_length x.chain x.interrupt_on_completion x.immediate_data x.interrupt_on_short y.1)
-    transfer_said (TransferTrbVariant.SetupStage x) y =
-        let v = TransferTrbVariant.SetupStage x in
+    transfer_said (Ok (TransferTrbVariant.SetupStage x)) y =
+        let v : Parsed TransferTrbVariant = Ok (TransferTrbVariant.SetupStage x) in
         let f = bit x.interrupt_on_completion in
         let g = read (8 ∷ 8 ∷ 8 ∷ 8 ∷ 16 ∷ 16 ∷ []) (2 ∷ 0 ∷ x.request_type ∷ x.request ∷ x.value ∷ x.index ∷ []) (get_or (transfer.put v low high four) 0 0) (omega arith)
         (omega arith, (omega arith, (y.0, (y.1, (y.2, (y.3, tt)))))) in
         let k = read (16 ∷ 8 ∷ []) (x.length ∷ f ∷ []) (x.length + f * 2 ^ 16) (omega arith) (y.4, (bit_lt x.interrupt_on_completion, tt)) in
         said_by_lem transfer_places (transfer.put v low high four) 2 _ (nth 0 g)
         (ap₂ (λ (xs ys : List ℕ). get_or xs 0 0 ∷ get_or xs 2 0 ∷ get_or xs 3 0 ∷ get_or xs 4 0 ∷ get_or xs 5 0 ∷ ys) g k)
-    transfer_said (TransferTrbVariant.DataStage x) y =
+    transfer_said (Ok (TransferTrbVariant.DataStage x)) y =
         rw (word x.data_pointer y.0, nth 0 (read (8 ∷ []) (bit x.direction ∷ []) (bit x.direction) (omega arith) (bit_lt x.direction, tt)))
         (ap (λ (xs : List ℕ). 3 ∷ x.data_pointer ∷ get_or xs 0 0 ∷ get_or xs 4 0 ∷ get_or xs 1 0 ∷ get_or xs 2 0 ∷ get_or xs 3 0 ∷ bit x.direction ∷ [])
         (length_read x.transfer_length x.chain x.interrupt_on_completion x.immediate_data x.interrupt_on_short y.1))
-    transfer_said (TransferTrbVariant.StatusStage x) y =
-        let v = TransferTrbVariant.StatusStage x in
+    transfer_said (Ok (TransferTrbVariant.StatusStage x)) y =
+        let v : Parsed TransferTrbVariant = Ok (TransferTrbVariant.StatusStage x) in
         let g = read (8 ∷ 8 ∷ 8 ∷ 8 ∷ []) (4 ∷ bit x.chain ∷ bit x.interrupt_on_completion ∷ bit x.direction ∷ []) (get_or (transfer.put v low high four) 0 0) (omega arith)
         (omega arith, (bit_lt x.chain, (bit_lt x.interrupt_on_completion, (bit_lt x.direction, tt)))) in
         said_by_lem transfer_places (transfer.put v low high four) 4 _ (nth 0 g) g
-    transfer_said TransferTrbVariant.Isoch y = refl
-    transfer_said (TransferTrbVariant.EventData x) y =
+    transfer_said (Ok TransferTrbVariant.Isoch) y = refl
+    transfer_said (Ok (TransferTrbVariant.EventData x)) y =
         ap₂ (λ (p : ℕ) (xs : List ℕ). 7 ∷ p ∷ xs) (word x.event_data y)
         (two_read (bit x.chain) (bit x.interrupt_on_completion) (bit_lt x.chain) (bit_lt x.interrupt_on_completion))
-    transfer_said (TransferTrbVariant.NoOp x) y =
-        let v = TransferTrbVariant.NoOp x in
+    transfer_said (Ok (TransferTrbVariant.NoOp x)) y =
+        let v : Parsed TransferTrbVariant = Ok (TransferTrbVariant.NoOp x) in
         let g = three_read 8 (bit x.chain) (bit x.interrupt_on_completion) (omega arith) (bit_lt x.chain) (bit_lt x.interrupt_on_completion) in
         said_by_lem transfer_places (transfer.put v low high four) 8 _ (nth 0 g) g
-    transfer_said (TransferTrbVariant.Unrecognized e) y =
-        let v = TransferTrbVariant.Unrecognized e in
-        let k = refused_kind (d ∷ []) e.number e.trb_type y.0 y.1 in
-        said_by_lem transfer_places (transfer.put v low high four) 0 _ k (refused_said (d ∷ []) e.number e.trb_type y.0 y.1)
+    transfer_said (Err u) y =
+        let v : Parsed TransferTrbVariant = Err u in
+        let k = refused_kind (d ∷ []) (number_of u.error.refusal) u.error.trb_type (number_lt u.error.refusal) y in
+        said_by_lem transfer_places (transfer.put v low high four) 0 _ k (refused_said (d ∷ []) (number_of u.error.refusal) u.error.trb_type (number_lt u.error.refusal) y)
 
-    pub transfer_raw : (e : TrbParseError) → TransferTyped (TransferTrbVariant.Unrecognized e)
-        → raw_in (transfer.put (TransferTrbVariant.Unrecognized e) low high four) ≡ low ∷ high ∷ []
-    transfer_raw e y = refused_raw (d ∷ []) e.number e.trb_type y.0 y.1
+    pub transfer_raw : (u : Unrecognized) → TransferTyped (Err u)
+        → raw_in (transfer.put (Err u) low high four) ≡ low ∷ high ∷ []
+    transfer_raw u y = refused_raw (d ∷ []) (number_of u.error.refusal) u.error.trb_type (number_lt u.error.refusal) y
 
 -- ---- a Link, or another TRB
 
-abbrev pub link_in : CLink → LinkOrOther
+abbrev pub link_in : CLink → Option LinkTrb
 link_in l =
     when l.link (
-    LinkOrOther.Link (
+    Some (
     record {
       ring_segment_pointer = l.pointer;
       pointer_bits_cleared = l.cleared;
@@ -242,11 +245,11 @@ link_in l =
     }
     )
     ) or
-    LinkOrOther.Other
+    None
 
-pub link_back : (l : LinkOrOther) → link_in (flat_link l) ≡ l
-link_back (LinkOrOther.Link l) = refl
-link_back LinkOrOther.Other = refl
+pub link_back : (l : Option LinkTrb) → link_in (flat_link l) ≡ l
+link_back (Some l) = refl
+link_back None = refl
 
 -- ---- a data part: from the window's start so far on is where the TRB points, and so many bytes from there are the data
 

@@ -3,29 +3,29 @@ ghost use Rattle.std.specs.Prelude.{◌≡◌, ◌+◌, ◌*◌, ◌^◌};
 ghost use Rattle.guest.specs.Fields.{whole_of};
 ghost use Rattle.trb.specs.Commands.{command_of};
 ghost use Rattle.trb.specs.Trb.{bit};
-ghost use Rattle.trb_ffi.specs.Commands.{put, refused};
+ghost use Rattle.words.specs.Lent as lent;
+ghost use Rattle.trb_ffi.specs.Commands.{words_of, put};
 
+use crate::packing;
 use codes::trb_types;
 use trb::command::{CommandTrbVariant, SetTrDequeuePointerCommandTrbData};
 
 fn with_slot(kind: u8, slot: u8) -> u64
     ensures { result ≡ kind + slot * 2 ^ 8 }
 {
-    crate::packing::wide(kind) + crate::packing::wide(slot) * 0x100
+    (kind as u64) + (slot as u64) * 0x100
 }
 
 fn with_endpoint(kind: u8, endpoint: u8, slot: u8) -> u64
     ensures { result ≡ kind + endpoint * 2 ^ 8 + slot * 2 ^ 16 }
 {
-    crate::packing::wide(kind)
-        + crate::packing::wide(endpoint) * 0x100
-        + crate::packing::wide(slot) * 0x1_0000
+    (kind as u64) + (endpoint as u64) * 0x100 + (slot as u64) * 0x1_0000
 }
 
 fn with_flag(slot: u8, flag: bool) -> u64
     ensures { result ≡ slot + bit flag * 2 ^ 8 }
 {
-    crate::packing::wide(slot) + words::bit(flag) * 0x100
+    (slot as u64) + (flag as u64) * 0x100
 }
 
 // The stream id, the endpoint, the slot, the cycle state and the stream context type.
@@ -34,78 +34,78 @@ fn dequeue(d: SetTrDequeuePointerCommandTrbData) -> u64
         + bit d.dequeue_cycle_state * 2 ^ 32 + d.stream_context_type * 2 ^ 40 }
 {
     (d.stream_id as u64)
-        + crate::packing::wide(d.endpoint_id) * 0x1_0000
-        + crate::packing::wide(d.slot_id) * 0x100_0000
-        + words::bit(d.dequeue_cycle_state) * 0x1_0000_0000
-        + crate::packing::wide(d.stream_context_type) * 0x100_0000_0000
+        + (d.endpoint_id as u64) * 0x1_0000
+        + (d.slot_id as u64) * 0x100_0000
+        + (d.dequeue_cycle_state as u64) * 0x1_0000_0000
+        + (d.stream_context_type as u64) * 0x100_0000_0000
 }
 
-fn refuse(out: &mut [u64; 3], low: u64, high: u64, number: u8, trb_type: u8)
-    ensures { out.new ≡ refused low high number trb_type out.old }
-{
-    words::three(
-        out,
-        crate::packing::up(low),
-        crate::packing::across(low, high),
-        crate::packing::beside(high, number, trb_type),
-    )
-}
-
-fn put(out: &mut [u64; 3], variant: CommandTrbVariant, low: u64, high: u64)
-    ensures { out.new ≡ put variant low high out.old }
+fn put(out: &mut [u64; 3], variant: CommandTrbVariant)
+    ensures { out.new ≡ lent.put (words_of variant) out.old }
 {
     match variant {
-        CommandTrbVariant::NoOp => words::one(out, trb_types::NO_OP_COMMAND as u64),
-        CommandTrbVariant::EnableSlot => words::one(out, trb_types::ENABLE_SLOT_COMMAND as u64),
-        CommandTrbVariant::DisableSlot(d) => words::one(
+        CommandTrbVariant::NoOp => words::put(out, &[trb_types::NO_OP_COMMAND as u64]),
+        CommandTrbVariant::EnableSlot => words::put(out, &[trb_types::ENABLE_SLOT_COMMAND as u64]),
+        CommandTrbVariant::DisableSlot(d) => words::put(
             out,
-            with_slot(trb_types::DISABLE_SLOT_COMMAND, d.slot_id),
+            &[with_slot(trb_types::DISABLE_SLOT_COMMAND, d.slot_id)],
         ),
-        CommandTrbVariant::AddressDevice(d) => words::three(
+        CommandTrbVariant::AddressDevice(d) => words::put(
             out,
-            trb_types::ADDRESS_DEVICE_COMMAND as u64,
-            d.input_context_pointer,
-            with_flag(d.slot_id, d.block_set_address_request),
+            &[
+                trb_types::ADDRESS_DEVICE_COMMAND as u64,
+                d.input_context_pointer,
+                with_flag(d.slot_id, d.block_set_address_request),
+            ],
         ),
-        CommandTrbVariant::ConfigureEndpoint(d) => words::three(
+        CommandTrbVariant::ConfigureEndpoint(d) => words::put(
             out,
-            trb_types::CONFIGURE_ENDPOINT_COMMAND as u64,
-            d.input_context_pointer,
-            with_flag(d.slot_id, d.deconfigure),
+            &[
+                trb_types::CONFIGURE_ENDPOINT_COMMAND as u64,
+                d.input_context_pointer,
+                with_flag(d.slot_id, d.deconfigure),
+            ],
         ),
-        CommandTrbVariant::EvaluateContext(d) => words::three(
+        CommandTrbVariant::EvaluateContext(d) => words::put(
             out,
-            trb_types::EVALUATE_CONTEXT_COMMAND as u64,
-            d.input_context_pointer,
-            crate::packing::wide(d.slot_id),
+            &[
+                trb_types::EVALUATE_CONTEXT_COMMAND as u64,
+                d.input_context_pointer,
+                (d.slot_id as u64),
+            ],
         ),
-        CommandTrbVariant::ResetEndpoint(d) => words::one(
+        CommandTrbVariant::ResetEndpoint(d) => words::put(
             out,
-            with_endpoint(trb_types::RESET_ENDPOINT_COMMAND, d.endpoint_id, d.slot_id),
+            &[with_endpoint(trb_types::RESET_ENDPOINT_COMMAND, d.endpoint_id, d.slot_id)],
         ),
-        CommandTrbVariant::StopEndpoint(d) => words::one(
+        CommandTrbVariant::StopEndpoint(d) => words::put(
             out,
-            with_endpoint(trb_types::STOP_ENDPOINT_COMMAND, d.endpoint_id, d.slot_id),
+            &[with_endpoint(trb_types::STOP_ENDPOINT_COMMAND, d.endpoint_id, d.slot_id)],
         ),
-        CommandTrbVariant::SetTrDequeuePointer(d) => words::three(
+        CommandTrbVariant::SetTrDequeuePointer(d) => words::put(
             out,
-            trb_types::SET_TR_DEQUEUE_POINTER_COMMAND as u64,
-            d.dequeue_pointer,
-            dequeue(d),
+            &[
+                trb_types::SET_TR_DEQUEUE_POINTER_COMMAND as u64,
+                d.dequeue_pointer,
+                dequeue(d),
+            ],
         ),
-        CommandTrbVariant::ResetDevice(d) => words::one(
+        CommandTrbVariant::ResetDevice(d) => words::put(
             out,
-            with_slot(trb_types::RESET_DEVICE_COMMAND, d.slot_id),
+            &[with_slot(trb_types::RESET_DEVICE_COMMAND, d.slot_id)],
         ),
-        CommandTrbVariant::ForceHeader => words::one(out, trb_types::FORCE_HEADER_COMMAND as u64),
-        CommandTrbVariant::Unrecognized(e) => refuse(out, low, high, e.number, e.trb_type),
+        CommandTrbVariant::ForceHeader => words::put(
+            out,
+            &[trb_types::FORCE_HEADER_COMMAND as u64],
+        ),
     }
 }
 
 pub fn lomvigast_parse_command(out: &mut [u64; 3], low: u64, high: u64)
-    ensures { out.new ≡ put (command_of (whole_of low high)).variant low high out.old }
+    ensures { out.new ≡ put (command_of (whole_of low high)) low high out.old }
 {
-    let parsed = CommandTrbVariant::parse(guest::whole(low, high));
-    let variant = parsed.variant;
-    put(out, variant, low, high)
+    match CommandTrbVariant::parse(guest::whole(low, high)) {
+        Ok(variant) => put(out, variant),
+        Err(unrecognized) => packing::refuse(out, low, high, unrecognized.error),
+    }
 }

@@ -14,7 +14,7 @@ pub fn lomvigast_event_bytes(event: &[u64; 3], cycle: u64) -> CTrb
 }
 
 pub fn lomvigast_parse_event(out: &mut [u64; 3], low: u64, high: u64) -> u16
-    ensures { (result ≡ refusal_shown (event_of (whole_of low high)).variant) × (out.new ≡ put_variant (event_of (whole_of low high)).variant out.old) }
+    ensures { (result ≡ refusal_shown (event_of (whole_of low high))) × (out.new ≡ put_variant (event_of (whole_of low high)) out.old) }
 {
     words::event::parse(out, low, high)
 }

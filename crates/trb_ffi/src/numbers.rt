@@ -3,8 +3,8 @@ ghost use Rattle.std.specs.Prelude.{◌≡◌};
 ghost use Rattle.codes.specs.Codes.{code_of, class_of, number_of_class, number_of_coded};
 ghost use Rattle.trb_ffi.specs.Numbers.{value_of, flat_coded};
 
-use codes::{Class, Coded};
-use guest::refusal;
+use codes::{Class, CompletionCode};
+use guest::refusal::Refusal;
 
 // A number, with refusal 0; or a refusal, with 0.
 #[repr(C)]
@@ -14,21 +14,21 @@ pub struct CCoded {
     pub code: u8,
 }
 
-fn refused(coded: Coded) -> u8
+fn refused(coded: Option<CompletionCode>) -> u8
     ensures { result ≡ number_of_coded coded }
 {
     match coded {
-        Coded::Listed(_) => 0,
-        Coded::Unlisted => refusal::CODE,
+        Some(_) => 0,
+        None => Refusal::Code.number(),
     }
 }
 
-fn value(coded: Coded) -> u8
+fn value(coded: Option<CompletionCode>) -> u8
     ensures { result ≡ value_of coded }
 {
     match coded {
-        Coded::Listed(code) => code.number(),
-        Coded::Unlisted => 0,
+        Some(code) => code.number(),
+        None => 0,
     }
 }
 

@@ -1,11 +1,9 @@
 // Bytes as numbers, and sixteen bytes moved up by one in the words of an answer.
 ghost use Rattle.std.specs.Prelude.{◌≡◌, ◌+◌, ◌*◌, ◌/◌, ◌%◌, ◌^◌, ◌<◌, ◌≤◌};
+ghost use Rattle.guest.specs.Refusals.{number_of};
+ghost use Rattle.trb_ffi.specs.Commands.{refused};
 
-pub(crate) fn wide(x: u8) -> u64
-    ensures { result ≡ x }
-{
-    x as u64
-}
+use trb::TrbParseError;
 
 // A number's top byte, and its other bytes moved up by one.
 
@@ -15,20 +13,27 @@ fn top(x: u64) -> u64
     x / 0x100_0000_0000_0000
 }
 
-pub(crate) fn up(x: u64) -> u64
+fn up(x: u64) -> u64
     ensures { (result ≡ x % 2 ^ 56 * 2 ^ 8) × (result + 2 ^ 8 ≤ 2 ^ 64) }
 {
     x % 0x100_0000_0000_0000 * 0x100
 }
 
-pub(crate) fn across(low: u64, high: u64) -> u64
+fn across(low: u64, high: u64) -> u64
     ensures { result ≡ low / 2 ^ 56 + high % 2 ^ 56 * 2 ^ 8 }
 {
     top(low) + up(high)
 }
 
-pub(crate) fn beside(high: u64, number: u8, trb_type: u8) -> u64
-    ensures { result ≡ high / 2 ^ 56 + number * 2 ^ 8 + trb_type * 2 ^ 16 }
+fn beside(high: u64, error: TrbParseError) -> u64
+    ensures { result ≡ high / 2 ^ 56 + number_of error.refusal * 2 ^ 8 + error.trb_type * 2 ^ 16 }
 {
-    top(high) + wide(number) * 0x100 + wide(trb_type) * 0x1_0000
+    top(high) + (error.refusal.number() as u64) * 0x100 + (error.trb_type as u64) * 0x1_0000
+}
+
+// What was not taken apart: its bytes, and why.
+pub(crate) fn refuse<const N: usize>(out: &mut [u64; N], low: u64, high: u64, error: TrbParseError)
+    ensures { out.new ≡ refused low high (number_of error.refusal) error.trb_type out.old }
+{
+    words::put(out, &[up(low), across(low, high), beside(high, error)])
 }

@@ -7,8 +7,9 @@ ghost use Rattle.trb.specs.Links.{link_of};
 ghost use Rattle.trb.specs.Data.{data_refusal};
 ghost use Rattle.trb_ffi.specs.Parts.{flat_link, info_of, part_of};
 
+use guest::Window;
 use trb::data::TrbDmaInfo;
-use trb::link::{LinkOrOther, LinkTrb};
+use trb::link::LinkTrb;
 
 // A Link; or, with `link` false and 0s, any other TRB.
 #[repr(C)]
@@ -30,18 +31,18 @@ pub struct CPart {
     pub refusal: u8,
 }
 
-fn flat_link(answer: LinkOrOther) -> CLink
+fn flat_link(answer: Option<LinkTrb>) -> CLink
     ensures { result ≡ flat_link answer }
 {
     match answer {
-        LinkOrOther::Link(l) => CLink {
+        Some(l) => CLink {
             pointer: l.ring_segment_pointer,
             link: true,
             cleared: l.pointer_bits_cleared,
             toggle: l.toggle_cycle,
             completion: l.interrupt_on_completion,
         },
-        LinkOrOther::Other => CLink {
+        None => CLink {
             pointer: 0,
             link: false,
             cleared: false,
@@ -83,7 +84,10 @@ pub fn lomvigast_data_refusal(
         transfer_length: length,
         immediate_data: immediate,
     };
-    trb::data::data_refusal(start, mem, info)
+    match trb::data::data_refusal(&Window::at(start, mem), info) {
+        Ok(()) => 0,
+        Err(refusal) => refusal.number(),
+    }
 }
 
 // The place of the part, since a reference cannot be answered over C.
@@ -99,7 +103,7 @@ pub fn lomvigast_data(start: u64, mem: &[u8], pointer: u64, length: u32, immedia
         };
     }
     CPart {
-        offset: guest::offset(start, mem, pointer, length as u64),
+        offset: Window::at(start, mem).offset(pointer, length as u64),
         length,
         refusal: 0,
     }

@@ -8,7 +8,7 @@ use trb_ffi::commands;
 
 #[unsafe(no_mangle)]
 pub extern "C" fn lomvigast_parse_command(out: &mut [u64; 3], low: u64, high: u64)
-    ensures { out.new ≡ put (command_of (whole_of low high)).variant low high out.old }
+    ensures { out.new ≡ put (command_of (whole_of low high)) low high out.old }
 {
     commands::lomvigast_parse_command(out, low, high)
 }

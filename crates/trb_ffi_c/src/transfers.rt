@@ -8,7 +8,7 @@ use trb_ffi::transfers;
 
 #[unsafe(no_mangle)]
 pub extern "C" fn lomvigast_parse_transfer(out: &mut [u64; 4], low: u64, high: u64)
-    ensures { out.new ≡ put (transfer_of (whole_of low high)).variant low high out.old }
+    ensures { out.new ≡ put (transfer_of (whole_of low high)) low high out.old }
 {
     transfers::lomvigast_parse_transfer(out, low, high)
 }

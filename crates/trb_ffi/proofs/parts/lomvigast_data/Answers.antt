@@ -17,7 +17,7 @@ returns c =
     let z = sym c.lomvigast_data_refusal-refusal.ensures ∙ c.if-refusal-ne0.false in
     let g = given _ _ z in
     rw (
-      c.offset.ensures ∙ judge_passes _ _ _ (within_inside _ _ _ g.within, tt),
+      rw c.at.ensures at c.offset.ensures ∙ judge_passes _ _ _ (within_inside _ _ _ g.within, tt),
       g.offset,
       g.bytes,
       z,
