@@ -54,7 +54,8 @@ pub fn check(tree: &Tree, heads: Option<&Heads>) -> Report {
     faults.extend(theorems::faults(tree));
     faults.extend(edits::faults(tree));
     faults.extend(tree.crates.iter().flat_map(|one| exports(tree, one, &all)));
-    faults.extend(heads.map_or(Vec::new(), |heads| heads.faults(&tree.crates, &all)));
+    faults.extend(heads.map_or(Vec::new(), |heads| heads.faults(&tree.crates, &sources)));
+    let traits = rules::traits(&sources);
     let loose = pages::loose(&tree.loose);
     let promises = pages::promises(&tree.promises);
     for source in &sources {
@@ -62,6 +63,8 @@ pub fn check(tree: &Tree, heads: Option<&Heads>) -> Report {
             faults.extend(rules::contract(function, &source.imports, &loose));
             faults.extend(rules::promise(function, &promises));
         }
+        let blocks = source.blocks.iter();
+        faults.extend(blocks.flat_map(|block| rules::block(block, source, &traits)));
     }
     let public: Vec<&Function> = all.into_iter().filter(|one| one.public).collect();
     let paths: HashSet<&str> = public.iter().map(|one| one.path.as_str()).collect();

@@ -11,7 +11,7 @@
 use std::collections::{BTreeMap, BTreeSet};
 
 use crate::fault::Fault;
-use crate::source::{print, Function};
+use crate::source::{print, Source};
 use crate::tree::{Crate, File, CRATES};
 
 /// What the compiler read of a crate.
@@ -66,21 +66,20 @@ impl Heads {
     }
 
     /// Where the compiler read something else than is read here, or nothing where there are functions.
-    pub fn faults(&self, crates: &[Crate], all: &[&Function]) -> Vec<Fault> {
+    pub fn faults(&self, crates: &[Crate], sources: &[Source]) -> Vec<Fault> {
         let mut found = Vec::new();
         for one in crates.iter().filter(|one| one.has("src/lib.rt")) {
-            let own = format!("{}::", one.name);
-            let own: Vec<&Function> = all
+            let folder = format!("crates/{}/", one.name);
+            let own = sources
                 .iter()
-                .filter(|function| function.path.starts_with(&own))
-                .copied()
-                .collect();
+                .filter(|source| source.file.starts_with(&folder));
+            let own: Vec<Said> = own.flat_map(said).collect();
             match self.0.get(&one.name) {
                 Some(Seen::Printed(files)) => found.extend(printed(one, files, &own)),
                 Some(Seen::Proved(functions)) => found.extend(proved(functions, &own)),
                 None => {
                     let what = "is not among what the compiler read";
-                    found.extend(own.iter().map(|one| fault(one, what)));
+                    found.extend(own.iter().map(|one| one.fault(what)));
                 }
             }
         }
@@ -94,31 +93,56 @@ impl Heads {
     }
 }
 
-fn fault(function: &Function, what: &str) -> Fault {
-    Fault::new(&function.file, function.line, &function.path, what)
+/// A function, or a trait or an impl of one with its members, and all that is said of it.
+struct Said {
+    file: String,
+    line: usize,
+    path: String,
+    head: String,
 }
 
-/// Functions whose head is not what the compiler printed.
-fn printed(one: &Crate, files: &[File], own: &[&Function]) -> Vec<Fault> {
+impl Said {
+    fn fault(&self, what: &str) -> Fault {
+        Fault::new(&self.file, self.line, &self.path, what)
+    }
+}
+
+fn said(source: &Source) -> Vec<Said> {
+    let said = |line: usize, path: &str, head: String| Said {
+        file: source.file.clone(),
+        line,
+        path: path.to_string(),
+        head,
+    };
+    let functions = source.functions.iter();
+    let functions = functions.map(|one| said(one.line, &one.path, one.head()));
+    let blocks = source.blocks.iter();
+    let blocks = blocks.map(|one| said(one.line, &one.path, one.head()));
+    functions.chain(blocks).collect()
+}
+
+/// What is not as the compiler printed it.
+fn printed(one: &Crate, files: &[File], own: &[Said]) -> Vec<Fault> {
     let (mut printed, mut found) = (BTreeMap::new(), Vec::new());
     for (file, module) in one.with_modules(files) {
         match print(&file.name, &module, &file.text) {
-            Ok(read) => printed.extend(read.functions.into_iter().map(|f| (f.path.clone(), f))),
+            Ok(read) => printed.extend(said(&read).into_iter().map(|one| (one.path.clone(), one))),
             Err(trouble) => found.push(trouble),
         }
     }
     let what = "is not as the compiler read it";
-    for function in own {
-        if printed.remove(&function.path).map(|one| one.head()) != Some(function.head()) {
-            found.push(fault(function, what));
+    for one in own {
+        if printed.remove(&one.path).map(|seen| seen.head) != Some(one.head.clone()) {
+            found.push(one.fault(what));
         }
     }
-    found.extend(printed.values().map(|hidden| fault(hidden, what)));
+    found.extend(printed.values().map(|hidden| hidden.fault(what)));
     found
 }
 
-/// Functions that the compiler proved and that are not read here, or the other way about.
-fn proved(functions: &BTreeSet<String>, own: &[&Function]) -> Vec<Fault> {
+/// Functions that the compiler proved and that are not read here, or the other way about. Of a static library no trait and no impl of one
+/// is known.
+fn proved(functions: &BTreeSet<String>, own: &[Said]) -> Vec<Fault> {
     let what = "is not among what the compiler proved";
     let unproved = own.iter().filter(|one| !functions.contains(&one.path));
     let hidden = functions
@@ -126,7 +150,7 @@ fn proved(functions: &BTreeSet<String>, own: &[&Function]) -> Vec<Fault> {
         .filter(|path| !own.iter().any(|one| one.path == **path));
     let what_hidden = "was proved by the compiler, and is not read here";
     let hidden = hidden.map(|path| Fault::new(CRATES, 1, path, what_hidden));
-    unproved.map(|one| fault(one, what)).chain(hidden).collect()
+    unproved.map(|one| one.fault(what)).chain(hidden).collect()
 }
 
 #[cfg(test)]

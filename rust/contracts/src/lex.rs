@@ -54,7 +54,7 @@ impl<'a> Lexer<'a> {
         &self.text[self.at..]
     }
 
-    /// The next word of Rattle: a name, a number, a string, a byte literal or byte string, a lifetime, `->`, `::`, or a sign.
+    /// The next word of Rattle: a name, a number, a literal of text, bytes or one character, a lifetime, `->`, `::`, or a sign.
     pub fn rattle(&mut self) -> Read<Option<Word<'a>>> {
         self.skip_comments()?;
         let rest = self.rest();
@@ -67,7 +67,7 @@ impl<'a> Lexer<'a> {
                 Some(len) => len,
                 None => return self.trouble("has a literal that never ends"),
             },
-            '\'' => self.lifetime()?,
+            '\'' => self.character()?,
             _ if rest.starts_with("->") || rest.starts_with("::") => 2,
             _ if first.is_ascii_punctuation() => 1,
             _ => {
@@ -128,14 +128,20 @@ impl<'a> Lexer<'a> {
         }
     }
 
-    /// The length of the lifetime here. A literal of one character has a second `'`, and is not known here.
-    fn lifetime(&self) -> Read<usize> {
-        let rest = &self.rest()[1..];
-        let len = rest.find(|c| !named(c)).unwrap_or(rest.len());
-        if len == 0 || rest[len..].starts_with('\'') {
-            return self.trouble("has a `'` that begins no lifetime");
+    /// The length of the literal of one character here, or of the lifetime, after which stands no second `'`.
+    fn character(&self) -> Read<usize> {
+        let rest = self.rest();
+        let mut inner = rest[1..].chars();
+        let name = rest[1..].find(|c| !named(c)).unwrap_or(rest.len() - 1);
+        let len = match (inner.next(), inner.next()) {
+            (Some('\\'), _) => quoted(rest, '\''),
+            (Some(c), Some('\'')) if c != '\'' => Some(2 + c.len_utf8()),
+            _ => Some(1 + name).filter(|len| name > 0 && !rest[*len..].starts_with('\'')),
+        };
+        match len {
+            Some(len) => Ok(len),
+            None => self.trouble("has a `'` that begins no lifetime"),
         }
-        Ok(1 + len)
     }
 
     /// The antt text up to the brace that closes the one just read. Nothing may stand in it by which a brace might not
@@ -329,7 +335,7 @@ mod tests {
     #[test]
     fn rattle_has_names_literals_lifetimes_and_signs() {
         let text =
-            "a // { \"\nio(b\"}\\\"}\", b'\"', b'\\'', b'{') + 'b -> x::y \"C\" \"}//\\\\\" 0x1_f";
+            "a // { \"\nio(b\"}\\\"}\", b'\"', b'\\'', b'{') + 'b -> x::y \"C\" \"}//\\\\\" 0x1_f '\"' '\\'' 'é' '_>";
         let expected = [
             "a",
             "io",
@@ -351,6 +357,11 @@ mod tests {
             "\"C\"",
             "\"}//\\\\\"",
             "0x1_f",
+            "'\"'",
+            "'\\''",
+            "'é'",
+            "'_",
+            ">",
         ];
         assert_eq!(texts(text).as_deref(), Ok(&expected[..]));
     }
@@ -370,7 +381,11 @@ mod tests {
             "/* a /* b */",
             "\"text",
             "f\"text\"",
-            "'a'",
+            "''",
+            "'''",
+            "'ab'",
+            "'\\'",
+            "'\n",
             "br\"a\"",
             "br#\"a\"#",
             "r#fn",

@@ -5,15 +5,19 @@
 //!
 //! 1. It has no `requires`.
 //! 2. Its `ensures` clauses give its result, and each `&mut` parameter at exit, by an equation (src/clause.rs has the
-//!    form). A file, an item, a head or a clause of a form that is not known here is a fault.
+//!    form). A public trait's functions are public, and their clauses stand in the trait. The function of an impl of `From` or
+//!    `TryFrom` is public too, and the ghost member `from_gives` or `try_from_gives` is its equation. A file, an item, a head, a
+//!    clause or a ghost member of a form that is not known here is a fault.
 //! 3. Or docs/LOOSE.md lists it with a reason; it has an `ensures` all the same, or the reason says "no ensures".
-//! 4. docs/PROMISES.md names it, and neither page names a function that is not there.
+//! 4. docs/PROMISES.md names it, as `trb::event::EventTrb::parse`, `guest::FromWindow::read` of a trait and
+//!    `guest::<Dwords as From<[u8; 16]>>::from` of an impl, and neither page names a function that is not there.
 //! 5. The symbols of contracts mean what the library says.
 //! 6. The theorems that docs/PROMISES.md names are declared, and docs/THEOREMS.md has their statements.
 //! 7. docs/PROMISES.md names every must-fail edit, and none that is not there.
 //! 8. The functions of a crate NAME_c beside a crate NAME, which are its exports, have the heads of NAME's.
 //! 9. With `contracts ROOT HEADS`, the file of that name that rust/lomvigast/archives leaves beside archives of these sources: the heads
-//!    of all functions of a library are those that the compiler read, and a static library has those functions that it proved.
+//!    of all functions of a library, its traits and its impls of traits are those that the compiler read, and a static library has
+//!    those functions that it proved.
 //!
 //! `contracts --theorems ROOT` prints docs/THEOREMS.md as the files have it.
 
@@ -24,6 +28,8 @@ mod declared;
 mod demo;
 mod edits;
 mod fault;
+#[cfg(test)]
+mod forms;
 mod heads;
 mod lex;
 mod pages;

@@ -1,11 +1,13 @@
 //! The rules for public functions, and for the two pages that speak of them.
 
-use std::collections::HashSet;
+use std::collections::{HashMap, HashSet};
 
-use crate::clause::{equated, Subject};
+use crate::clause::{equated, given, gives, kind, view, Subject};
 use crate::fault::Fault;
 use crate::pages::{Item, Promises};
-use crate::source::{Function, Parameter, Passed};
+use crate::source::{
+    converts, only_shows, Block, Function, Kind, Member, Parameter, Passed, Source,
+};
 use crate::tree;
 
 /// The item of docs/LOOSE.md that lists the function and gives a reason.
@@ -40,8 +42,14 @@ pub fn contract(function: &Function, imports: &HashSet<String>, loose: &[Item]) 
         .collect()
 }
 
-/// What the `ensures` clauses, taken together, do not give by an equation; or the clause that is not known.
+/// What the `ensures` clauses, taken together, do not give by an equation; or the clause that is not known. A function of an impl of
+/// `From` or `TryFrom` has none, and gives its result by a member.
 fn unstated(function: &Function, imports: &HashSet<String>) -> Vec<String> {
+    if let Some(text) = &function.gives {
+        let name = function.path.rsplit("::").next().unwrap_or("");
+        let told = |what| format!("its `{name}_gives` {what}");
+        return gives(text, imports).err().map(told).into_iter().collect();
+    }
     let mut stated: Vec<Subject> = Vec::new();
     for clause in &function.ensures {
         match equated(clause, function, imports) {
@@ -49,37 +57,91 @@ fn unstated(function: &Function, imports: &HashSet<String>) -> Vec<String> {
             Err(what) => return vec![format!("its `ensures` {what}")],
         }
     }
-    let mut missing = Vec::new();
-    let mut wanted = |subject: Subject, what: String| {
-        if !stated.contains(&subject) {
-            missing.push(what);
-        }
+    let loose = tree::LOOSE;
+    let missing = wanted(function).into_iter();
+    let missing = missing.filter(|(subject, _)| !stated.contains(subject));
+    missing
+        .map(|(_, what)| format!("no equation of {what}; and {loose} gives no reason"))
+        .collect()
+}
+
+/// What a function's clauses give: its result, and what it is lent to change.
+fn wanted(function: &Function) -> Vec<(Subject, String)> {
+    let of_result = |subject: Subject, what: &str| (subject, format!("its result{what} ≡ ..`"));
+    let mut found = match function.result {
+        None => Vec::new(),
+        Some(Passed::Value) => vec![of_result(Subject::Result, ": `result")],
+        Some(_) => vec![
+            of_result(Subject::ResultNow, ": `result.now"),
+            of_result(Subject::ResultPlace, "'s place: `result.ref_ptr"),
+        ],
     };
-    match function.result {
-        None => {}
-        Some(Passed::Value) => wanted(Subject::Result, "its result: `result ≡ ..`".to_string()),
-        Some(_) => {
-            wanted(
-                Subject::ResultNow,
-                "its result: `result.now ≡ ..`".to_string(),
-            );
-            wanted(
-                Subject::ResultPlace,
-                "its result's place: `result.ref_ptr ≡ ..`".to_string(),
-            );
-        }
-    }
     for Parameter { name, passed } in &function.parameters {
         if *passed == Passed::Lent {
-            wanted(
-                Subject::Lent(name.clone()),
-                format!("`{name}` at exit: `{name}.new ≡ ..`"),
-            );
+            let what = format!("`{name}` at exit: `{name}.new ≡ ..`");
+            found.push((Subject::Lent(name.clone()), what));
         }
     }
-    let loose = tree::LOOSE;
-    let what = |missing| format!("no equation of {missing}; and {loose} gives no reason");
-    missing.into_iter().map(what).collect()
+    found
+}
+
+/// The traits that the sources declare, and whether they are public.
+pub fn traits(sources: &[Source]) -> HashMap<&str, bool> {
+    let mut found = HashMap::new();
+    for block in sources.iter().flat_map(|source| &source.blocks) {
+        if let Kind::Trait { public } = block.kind {
+            *found.entry(block.of.as_str()).or_default() |= public;
+        }
+    }
+    found
+}
+
+/// The ghost members of a trait, or of an impl of one that is known here, have forms that are known, since contracts are made of them.
+pub fn block(block: &Block, source: &Source, traits: &HashMap<&str, bool>) -> Vec<Fault> {
+    let of = block.of.as_str();
+    let fault = |line: usize, what: String| Fault::new(&source.file, line, &block.path, what);
+    let known = of == "Model" || converts(of) || only_shows(of);
+    if !known && !traits.contains_key(of) {
+        let what = format!("is of the trait `{of}`, which is not known here");
+        return vec![fault(block.line, what)];
+    }
+    let told = |one: &Member| {
+        let what = member(one, block, source, traits).err()?;
+        Some(fault(one.line, format!("its `{}` {what}", one.name)))
+    };
+    block.members.iter().filter_map(told).collect()
+}
+
+/// Why a ghost member is of no form that is known. Those of private traits may be of any, and those of conversions are held with their
+/// functions.
+fn member(
+    one: &Member,
+    block: &Block,
+    source: &Source,
+    traits: &HashMap<&str, bool>,
+) -> Result<(), String> {
+    let (of, imports) = (block.of.as_str(), &source.imports);
+    match &block.kind {
+        Kind::Trait { public: true } if imports.contains(&one.name) => {
+            Err("is also brought in by a `ghost use`".to_string())
+        }
+        Kind::Trait { public: true } => kind(&one.text, imports),
+        Kind::Trait { public: false } => Ok(()),
+        Kind::Impl { typed } if of == "Model" => model(one, typed, source),
+        Kind::Impl { .. } if converts(of) || traits.get(of) == Some(&false) => Ok(()),
+        Kind::Impl { .. } => given(&one.text, imports),
+    }
+}
+
+/// Why a member is none of the two that a model has here. What else it may have asks something of who makes a value.
+fn model(member: &Member, typed: &str, source: &Source) -> Result<(), String> {
+    let fields = source.fields.get(typed);
+    match (member.name.as_str(), fields) {
+        ("Value", _) => kind(&member.text, &source.imports),
+        ("view", Some(fields)) => view(&member.text, fields, &source.imports),
+        ("view", None) => Err("is of a type whose fields have no names here".to_string()),
+        _ => Err("is none of a model's members that are known here".to_string()),
+    }
 }
 
 /// The function's path stands in docs/PROMISES.md.

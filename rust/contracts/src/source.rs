@@ -1,10 +1,17 @@
-//! Finds the public functions of a Rattle file, with their parameters and clauses. The file is read item by item; what
-//! is no item of the forms below is a fault, and so is a head with anything in it but what a function's head has here.
+//! Finds the public functions of a Rattle file, with their parameters and clauses, and the traits and impls with ghost members by which
+//! contracts speak. The file is read item by item; what is no item of the forms below is a fault, and so is a head with anything in it
+//! but what a function's head has here.
 
-use std::collections::HashSet;
+mod blocks;
+mod kinds;
+
+use std::collections::{HashMap, HashSet};
+use std::mem;
 
 use crate::fault::Fault;
-use crate::lex::{antt, bare, Lexer, Read, Word};
+use crate::lex::{antt, bare, Lexer, Read, Trouble, Word};
+pub use blocks::{converts, only_shows};
+use kinds::OF_STD;
 
 /// How a value is passed: by itself, lent to be read, or lent to be changed.
 #[derive(Clone, Copy, Debug, PartialEq, Eq)]
@@ -21,16 +28,48 @@ pub struct Parameter {
 }
 
 /// A function as its head states it. The names of its clauses are nobody's.
-#[derive(Clone, Debug)]
+#[derive(Clone, Debug, Default)]
 pub struct Function {
     pub file: String,
     pub line: usize,
     pub path: String,
     pub public: bool,
+    /// The names that its clauses may say beside its parameters: its const parameters, and the members of its trait.
+    pub names: Vec<String>,
+    /// The types whose ghost members its clauses may say, as `T.width`.
+    pub types: Vec<String>,
     pub parameters: Vec<Parameter>,
     pub result: Option<Passed>,
     pub requires: bool,
     pub ensures: Vec<String>,
+    /// Of an impl of `From` or `TryFrom`, whose functions have no clause: what its `.._gives` says, or nothing.
+    pub gives: Option<String>,
+}
+
+/// A ghost member: what a trait declares, or what an impl of it gives.
+#[derive(Clone, Debug, PartialEq, Eq)]
+pub struct Member {
+    pub line: usize,
+    pub name: String,
+    pub text: String,
+}
+
+/// Which of the two a block is. The type that an impl is for is told by its path.
+#[derive(Clone, Debug, PartialEq, Eq)]
+pub enum Kind {
+    Trait { public: bool },
+    Impl { typed: String },
+}
+
+/// A trait, or an impl of one.
+#[derive(Clone, Debug)]
+pub struct Block {
+    pub line: usize,
+    pub path: String,
+    pub kind: Kind,
+    /// The trait's name.
+    pub of: String,
+    pub members: Vec<Member>,
 }
 
 /// A Rattle file: all its functions, and what it brings in for the clauses.
@@ -38,6 +77,9 @@ pub struct Function {
 pub struct Source {
     pub file: String,
     pub functions: Vec<Function>,
+    pub blocks: Vec<Block>,
+    /// The fields of its structs, by their paths.
+    pub fields: HashMap<String, Vec<String>>,
     /// The names that its `ghost use` items bring in.
     pub imports: HashSet<String>,
     /// Those items as antt, each at its line.
@@ -47,23 +89,34 @@ pub struct Source {
 impl Function {
     /// All that the head says, with the words of its clauses.
     pub fn head(&self) -> String {
-        let words = |clause: &String| {
-            antt(clause)
-                .iter()
-                .map(|word| word.text)
-                .collect::<Vec<_>>()
-                .join(" ")
-        };
-        let clauses: Vec<String> = self.ensures.iter().map(words).collect();
+        let texts = self.ensures.iter().chain(&self.gives);
+        let clauses: Vec<String> = texts.map(|text| words(text)).collect();
         let Function {
             public,
+            names,
+            types,
             parameters,
             result,
             requires,
             ..
         } = self;
-        format!("{public} {parameters:?} {result:?} {requires} {clauses:?}")
+        format!("{public} {names:?} {types:?} {parameters:?} {result:?} {requires} {clauses:?}")
     }
+}
+
+impl Block {
+    /// All that its members say.
+    pub fn head(&self) -> String {
+        let said = |one: &Member| format!("{} {}", one.name, words(&one.text));
+        let members: Vec<String> = self.members.iter().map(said).collect();
+        format!("{:?} {members:?}", self.kind)
+    }
+}
+
+/// The words of an antt text, whatever stands between them.
+fn words(text: &str) -> String {
+    let words: Vec<&str> = antt(text).iter().map(|word| word.text).collect();
+    words.join(" ")
 }
 
 /// Reads a file whose module has this path, as `trb::event`.
@@ -82,8 +135,15 @@ fn read(file: &str, module: &str, text: &str, bodiless: bool) -> Result<Source, 
             file,
             lexer: Lexer::new(text)?,
             bodiless,
-            private: false,
+            module: module.to_string(),
+            place: Place::File,
             ahead: None,
+            words: Vec::new(),
+            further: None,
+            members: Vec::new(),
+            hidden: HashSet::new(),
+            heads: Vec::new(),
+            homes: HashMap::new(),
             found: Source {
                 file: file.to_string(),
                 ..Source::default()
@@ -91,10 +151,13 @@ fn read(file: &str, module: &str, text: &str, bodiless: bool) -> Result<Source, 
         };
         parser.tactic_of_all()?;
         parser.items(module, Place::File)?;
+        parser.settle()?;
         Ok(parser.found)
     };
     read().map_err(|trouble| Fault::new(file, trouble.line, module, trouble.what))
 }
+
+const UNKNOWN: &str = "which the reader of contracts does not know";
 
 /// Words that begin or belong to an item. In a body, a constant or a type they are not known.
 const OF_ITEMS: [&str; 15] = [
@@ -115,11 +178,35 @@ const OF_ITEMS: [&str; 15] = [
     "async",
 ];
 
+/// The traits of std that may be derived. What a derived function answers is std's word.
+const DERIVED: [&str; 10] = [
+    "Clone",
+    "Copy",
+    "Debug",
+    "Default",
+    "Drop",
+    "Eq",
+    "Hash",
+    "Ord",
+    "PartialEq",
+    "PartialOrd",
+];
+
+/// Where items stand: `Of` is an impl of a trait, `Impl` of a type alone.
 #[derive(Clone, Copy, PartialEq, Eq)]
 enum Place {
     File,
     Module,
     Impl,
+    Trait { public: bool },
+    Of,
+}
+
+impl Place {
+    /// Whether any item may stand there.
+    fn is_free(self) -> bool {
+        matches!(self, Place::File | Place::Module)
+    }
 }
 
 struct Parser<'a> {
@@ -127,10 +214,28 @@ struct Parser<'a> {
     lexer: Lexer<'a>,
     /// Whether a function ends in `;` and has no body.
     bodiless: bool,
-    /// Whether the head that is read is a private function's, whose types may be of further forms.
-    private: bool,
+    module: String,
+    place: Place,
     ahead: Option<Word<'a>>,
+    /// The words so far.
+    words: Vec<&'a str>,
+    /// The first word, in what is read, of a type that only what is private may have.
+    further: Option<&'a str>,
+    /// The ghost members so far of the trait or impl that is read.
+    members: Vec<Member>,
+    /// The paths of the structs and enums that are private.
+    hidden: HashSet<String>,
+    heads: Vec<Head<'a>>,
+    /// Where each name that is brought in is from.
+    homes: HashMap<String, String>,
     found: Source,
+}
+
+/// The types of a public function: the paths that they have if they are of its module, and what only a private one may have.
+struct Head<'a> {
+    at: usize,
+    types: Vec<String>,
+    further: Option<&'a str>,
 }
 
 impl<'a> Parser<'a> {
@@ -142,10 +247,11 @@ impl<'a> Parser<'a> {
     }
 
     fn word(&mut self) -> Read<&'a str> {
-        match self.next()? {
-            Some(word) => Ok(word.text),
-            None => self.lexer.trouble("ends in the middle of an item"),
-        }
+        let Some(word) = self.next()? else {
+            return self.lexer.trouble("ends in the middle of an item");
+        };
+        self.words.push(word.text);
+        Ok(word.text)
     }
 
     /// The next word, which is read again.
@@ -164,9 +270,8 @@ impl<'a> Parser<'a> {
     }
 
     fn unknown<T>(&self, word: &str, place: &str) -> Read<T> {
-        self.lexer.trouble(format!(
-            "has `{word}` {place}, which the reader of contracts does not know"
-        ))
+        self.lexer
+            .trouble(format!("has `{word}` {place}, {UNKNOWN}"))
     }
 
     fn name(&mut self) -> Read<&'a str> {
@@ -181,40 +286,43 @@ impl<'a> Parser<'a> {
 
     /// Items up to the end of the file, or of the block that they stand in.
     fn items(&mut self, path: &str, place: Place) -> Read<()> {
+        let around = mem::replace(&mut self.place, place);
         loop {
             match self.peek()? {
-                "" if place == Place::File => return Ok(()),
-                "}" if place != Place::File => return self.expect("}"),
-                _ => self.item(path, place)?,
+                "" if place == Place::File => break,
+                "}" if place != Place::File => {
+                    self.expect("}")?;
+                    break;
+                }
+                _ => self.item(path)?,
             }
         }
+        self.place = around;
+        Ok(())
     }
 
-    fn item(&mut self, path: &str, place: Place) -> Read<()> {
+    fn item(&mut self, path: &str) -> Read<()> {
         let exported = self.attribute()?;
         let public = self.visibility()?;
         let line = self.lexer.line();
-        match self.word()? {
+        let (word, free) = (self.word()?, self.place.is_free());
+        match word {
             "fn" if !exported => self.function(path, public, line),
-            "extern" if exported && public && place != Place::Impl => {
-                self.expect("\"C\"")?;
-                self.expect("fn")?;
+            "extern" if exported && public && free => {
+                self.all_of(&["\"C\"", "fn"])?;
                 self.function(path, public, line)
             }
             "const" => self.skip(";", &[]),
-            word if place == Place::Impl || exported => {
-                self.unknown(word, "in place of a function")
-            }
-            "ghost" if !public => self.ghost_use(),
+            "ghost" if !public && !exported => self.ghost(),
+            "type" if self.place == Place::Of => self.alias(public),
+            word if !free || exported => self.unknown(word, "in place of a function"),
+            "type" => self.alias(public),
             "use" if !public => self.uses(),
-            "type" => self.skip(";", &["&", "<"]),
-            "struct" | "enum" => self.declared(),
+            "struct" => self.structure(path, public),
+            "enum" => self.enumeration(path, public),
             "mod" => self.module(path),
-            "impl" => {
-                let path = format!("{path}::{}", self.name()?);
-                self.expect("{")?;
-                self.items(&path, Place::Impl)
-            }
+            "trait" => self.declared_trait(path, public, line),
+            "impl" if !public => self.implementation(path, line),
             word => self.unknown(word, "in place of an item"),
         }
     }
@@ -229,7 +337,7 @@ impl<'a> Parser<'a> {
     }
 
     /// `#[unsafe(no_mangle)]`, which is told, and attributes that leave a contract as it stands: how values are laid out and copied,
-    /// `tactic` for the search of proofs, and what the compiler prints beside a constant.
+    /// `tactic` for the search of proofs, `inline`, and what the compiler prints beside a constant or an impl.
     fn attribute(&mut self) -> Read<bool> {
         let mut exported = false;
         while self.peek()? == "#" {
@@ -242,7 +350,7 @@ impl<'a> Parser<'a> {
                 }
                 "repr" => self.all_of(&["(", "C", ")", "]"])?,
                 "derive" => self.derived()?,
-                "tactic" => self.skip("]", &[])?,
+                "tactic" | "inline" => self.skip("]", &[])?,
                 "read_as" if self.bodiless => self.skip("]", &[])?,
                 word => return self.unknown(word, "in an attribute"),
             }
@@ -260,7 +368,8 @@ impl<'a> Parser<'a> {
         loop {
             match self.word()? {
                 ")" => return self.expect("]"),
-                "," | "Clone" | "Copy" | "Drop" => {}
+                "," => {}
+                word if DERIVED.contains(&word) => {}
                 word => return self.unknown(word, "among what is derived"),
             }
         }
@@ -285,36 +394,38 @@ impl<'a> Parser<'a> {
         let path = format!("{path}::{}", self.name()?);
         match self.word()? {
             ";" => Ok(()),
-            "{" => self.items(&path, Place::Module),
+            "{" => {
+                let around = mem::replace(&mut self.module, path.clone());
+                self.items(&path, Place::Module)?;
+                self.module = around;
+                Ok(())
+            }
             word => self.unknown(word, "after a module's name"),
         }
     }
 
-    /// A struct or an enum. It holds no reference: what a value of it lends would not be seen in a function's head.
-    fn declared(&mut self) -> Read<()> {
-        self.name()?;
-        match self.word()? {
-            "{" => self.skip("}", &["&", "<"]),
-            "(" => {
-                self.skip(")", &["&", "<"])?;
-                self.expect(";")
-            }
-            word => self.unknown(word, "after a type's name"),
-        }
-    }
-
+    /// A `use`. Of std's names that the reader goes by, only std's own come in.
     fn uses(&mut self) -> Read<()> {
+        let first = self.words.len();
         loop {
             match self.word()? {
-                ";" => return Ok(()),
+                ";" => break,
                 "{" | "}" | "," | "::" => {}
                 word if word.starts_with(|c: char| c.is_ascii_alphabetic()) => {}
                 word => return self.unknown(word, "in a `use`"),
             }
         }
+        let words = &self.words[first..];
+        let own = |at: &usize| words[0] != "std" || words[at - 1] == "as";
+        let taken = |at: &usize| OF_STD.contains(&words[*at]) && own(at);
+        match (1..words.len()).find(taken) {
+            Some(at) => self.unknown(words[at], "in a `use` that is not of std"),
+            None => Ok(()),
+        }
     }
 
-    /// `ghost use M.{a, b as c};` The names that it brings in are kept, and its text for whoever asks where they are from.
+    /// `ghost use M.{a, b as c};` The names that it brings in are kept, and its text for whoever asks where they are from. A name is
+    /// from one place, in whatever block it is brought in.
     fn ghost_use(&mut self) -> Read<()> {
         self.expect("use")?;
         let text = self.lexer.until_semicolon()?;
@@ -325,15 +436,19 @@ impl<'a> Parser<'a> {
                 .lexer
                 .trouble("has a `ghost use` that names nothing in braces");
         };
+        let module = words[..open].concat();
         for item in words[open + 1..words.len() - 1].split(|word| *word == ",") {
-            match item {
-                [name] | [_, "as", name] => self.found.imports.insert(name.to_string()),
-                _ => {
-                    return self
-                        .lexer
-                        .trouble("has a `ghost use` of a form that is not known here")
-                }
+            let ([from @ name] | [from, "as", name]) = item else {
+                return self
+                    .lexer
+                    .trouble("has a `ghost use` of a form that is not known here");
             };
+            let (name, home) = (name.to_string(), format!("{module}{from}"));
+            if *self.homes.entry(name.clone()).or_insert(home.clone()) != home {
+                let what = format!("brings in `{name}` from two places");
+                return self.lexer.trouble(what);
+            }
+            self.found.imports.insert(name);
         }
         let before = self.found.uses.matches('\n').count() + 1;
         let lines = "\n".repeat(text.line.saturating_sub(before));
@@ -372,47 +487,70 @@ impl<'a> Parser<'a> {
     /// A function, from its name to the end of its body.
     fn function(&mut self, path: &str, public: bool, line: usize) -> Read<()> {
         let path = format!("{path}::{}", self.name()?);
-        self.private = !public;
-        if self.peek()? == "<" {
-            match self.private {
-                true => self.generics()?,
-                false => self.lifetimes()?,
-            }
-        }
-        self.expect("(")?;
-        let parameters = self.parameters()?;
-        let result = match self.peek()? {
-            "->" => {
-                self.expect("->")?;
-                Some(self.kind()?)
-            }
-            _ => None,
-        };
         let mut function = Function {
             file: self.file.to_string(),
             line,
             path,
             public,
-            parameters,
-            result,
-            requires: false,
-            ensures: Vec::new(),
+            ..Function::default()
         };
+        self.of_block(&mut function)?;
+        let first = self.words.len();
+        if self.peek()? == "<" {
+            match function.public {
+                true => self.bounded(&mut function)?,
+                false => self.angles()?,
+            }
+        }
+        self.expect("(")?;
+        function.parameters = self.parameters()?;
+        if self.peek()? == "->" {
+            self.expect("->")?;
+            function.result = Some(self.kind()?);
+        }
+        let (at, further) = (self.found.functions.len(), self.further.take());
+        if function.public {
+            let types = self.own(&self.words[first..]);
+            self.heads.push(Head { at, types, further });
+        }
         self.clauses(&mut function)?;
         self.found.functions.push(function);
         Ok(())
     }
 
-    /// The clauses, each a keyword, perhaps a name, and braces, and then the body.
+    /// Holds the heads of public functions to what is declared: their types are public, and of forms that are known there. A conversion
+    /// with a private type is private.
+    fn settle(&mut self) -> Read<()> {
+        for head in &self.heads {
+            let function = &mut self.found.functions[head.at];
+            let hidden = head.types.iter().find(|path| self.hidden.contains(*path));
+            let what = match (hidden, head.further) {
+                (Some(_), _) if function.gives.is_some() => {
+                    function.public = false;
+                    continue;
+                }
+                (None, None) => continue,
+                (Some(path), _) => format!("has `{path}`, which is private, in a public head"),
+                (None, Some(word)) => format!("has `{word}` in a public head, {UNKNOWN}"),
+            };
+            let line = function.line;
+            return Err(Trouble { line, what });
+        }
+        Ok(())
+    }
+
+    /// The clauses, each a keyword, perhaps a name, and braces, and then the body. A function of an impl of a trait has the clauses
+    /// that the trait has, and a trait's may have no body.
     fn clauses(&mut self, function: &mut Function) -> Read<()> {
+        let of_trait = matches!(self.place, Place::Trait { .. });
         loop {
             let word = self.word()?;
             match word {
-                ";" if self.bodiless => return Ok(()),
-                "{" if !self.bodiless => return self.skip("}", &[]),
+                ";" if self.bodiless || of_trait => return Ok(()),
+                "{" if !self.bodiless || of_trait => return self.skip("}", &[]),
                 _ => {}
             }
-            if !["requires", "ensures"].contains(&word) {
+            if !["requires", "ensures"].contains(&word) || self.place == Place::Of {
                 return self.unknown(word, "in a function's head");
             }
             if self.peek()? != "{" {
@@ -425,36 +563,6 @@ impl<'a> Parser<'a> {
                 _ => function.ensures.push(text),
             }
         }
-    }
-
-    fn lifetimes(&mut self) -> Read<()> {
-        self.expect("<")?;
-        loop {
-            match self.word()? {
-                ">" => return Ok(()),
-                "," => {}
-                word if word.starts_with('\'') => {}
-                word => return self.unknown(word, "among a function's lifetimes"),
-            }
-        }
-    }
-
-    /// `<..>`, after a type or a function's name.
-    fn generics(&mut self) -> Read<()> {
-        self.expect("<")?;
-        let mut depth = 1;
-        while depth > 0 {
-            match self.word()? {
-                "<" => depth += 1,
-                ">" => depth -= 1,
-                "impl" | "dyn" => {}
-                word if OF_ITEMS.contains(&word) || ["{", "}", ";"].contains(&word) => {
-                    return self.unknown(word, "between a type's angle brackets")
-                }
-                _ => {}
-            }
-        }
-        Ok(())
     }
 
     fn parameters(&mut self) -> Read<Vec<Parameter>> {
@@ -487,58 +595,6 @@ impl<'a> Parser<'a> {
         self.expect(":")?;
         let passed = self.kind()?;
         Ok(Parameter { name, passed })
-    }
-
-    /// `&`, `&mut`, perhaps with a lifetime, or nothing.
-    fn reference(&mut self) -> Read<Passed> {
-        if self.peek()? != "&" {
-            return Ok(Passed::Value);
-        }
-        self.expect("&")?;
-        if self.peek()?.starts_with('\'') {
-            self.word()?;
-        }
-        if self.peek()? != "mut" {
-            return Ok(Passed::Shared);
-        }
-        self.expect("mut")?;
-        Ok(Passed::Lent)
-    }
-
-    /// A type: a path, an array or a slice of one, or a reference to one of these. In a private function's head also a type with
-    /// parameters, a tuple, or a type that has a trait, as `impl Print`.
-    fn kind(&mut self) -> Read<Passed> {
-        let passed = self.reference()?;
-        self.plain()?;
-        Ok(passed)
-    }
-
-    fn plain(&mut self) -> Read<()> {
-        if self.private && self.peek()? == "(" {
-            self.expect("(")?;
-            return self.skip(")", &[]);
-        }
-        if self.private && self.peek()? == "impl" {
-            self.expect("impl")?;
-        }
-        if self.peek()? != "[" {
-            self.name()?;
-            while self.peek()? == "::" {
-                self.expect("::")?;
-                self.name()?;
-            }
-            if self.private && self.peek()? == "<" {
-                self.generics()?;
-            }
-            return Ok(());
-        }
-        self.expect("[")?;
-        self.plain()?;
-        match self.word()? {
-            "]" => Ok(()),
-            ";" => self.skip("]", &["{"]),
-            word => self.unknown(word, "in a type"),
-        }
     }
 }
 
@@ -597,6 +653,125 @@ mod tests {
         ];
         assert_eq!(paths(source), expected);
         assert_eq!(found(source).functions.len(), 9);
+    }
+
+    /// A file with each form that today's Rattle has beside functions.
+    const FORMS: &str = r#"
+        #[derive(Clone, Copy, Debug, PartialEq, Eq, PartialOrd, Ord, Hash, Default)]
+        pub enum Code { #[default] Low = 0, High = 0x1f, Full(Pair), Both { a: u8, pub b: [u8; 2] } }
+        #[derive(Drop)]
+        pub struct Window<'a> { start: u64, pub(crate) bytes: &'a [u8], last: Option<Pair> }
+        struct Pair(u8, pub Option<u8>);
+        pub struct End;
+        struct Line<'a, T: A> { words: Vec<(u8, [T; 2])>, rest: &'a mut [u8], ghost full: { rest.now ≡ {} } }
+        enum Parsed<F> { Known { fields: F }, Other }
+        impl<F: Drop> Parsed<F> { fn of<const N: usize>(x: F) -> Result<[F; N], &'static u8> {} }
+        impl<F: fmt::Display + Drop> fmt::Display for Parsed<F> { fn fmt() {} }
+        impl From<&Line<'_, u8>> for Code { fn from(x: &Line<'_, u8>) -> Self { y } }
+        pub type Read = Result<Option<[u8; 16]>, Code,>;
+        impl Model for Window<'_> {
+            ghost use a.B.{window};
+            ghost Value = { Memory };
+            ghost view = { λ w. window w.start w.bytes.now };
+        }
+        impl<'a> Window<'a> {
+            ghost use a.B.{inside};
+            pub fn inside(&self, address: u64) -> bool { address.min(1) == 'a' as u64 }
+        }
+        pub trait Wide: Sized + a::Other {
+            const SIZE: u64;
+            ghost width: { ℕ };
+            fn wide(mem: &Window<'_>) -> Result<Self, Code> ensures { result ≡ width };
+            #[inline]
+            fn twice(self) -> u8 ensures { result ≡ 2 } { "fn".len() }
+        }
+        trait Near { fn near(self) requires { x }; }
+        impl Wide for u16 {
+            const SIZE: u64 = 2;
+            ghost width = { 2 };
+            fn wide(mem: &Window) -> Result<u16, Code> { Ok(2) }
+        }
+        impl From<[u8; 16]> for Code { ghost from_gives = { λ x r. r ≡ f x }; fn from(x: [u8; 16]) -> Self { y } }
+        impl From<Line> for Code { fn from(x: Line) -> Self { y } }
+        impl From<a::Line> for Code { fn from(x: a::Line) -> Self { y } }
+        impl TryFrom<u8> for [u8; 16] { type Error = Code; fn try_from(x: u8) -> Read { y } }
+        impl fmt::Display for Code {
+            fn fmt<W: fmt::Write>(&self, f: &mut fmt::Formatter<W>) -> fmt::Result { write!(f, "{}", 1) }
+        }
+        pub fn put<'a, T: Wide + Copy, const N: usize>(out: &mut [T; N], x: ()) -> Option<Window<'a>> {}
+        fn each(f: impl Fn(u8) -> u8, g: &impl FnMut()) -> u8 { (0..3).map(|x| f(x)).sum() }
+    "#;
+
+    #[test]
+    fn forms_of_today_are_read() {
+        let expected = [
+            "crate::Window::inside",
+            "crate::Wide::wide",
+            "crate::Wide::twice",
+            "crate::<Code as From<[u8; 16]>>::from",
+            "crate::<Code as From<a::Line>>::from",
+            "crate::<[u8; 16] as TryFrom<u8>>::try_from",
+            "crate::put",
+        ];
+        assert_eq!(paths(FORMS), expected);
+        let found = found(FORMS);
+        assert_eq!(found.functions.len(), 15);
+        let one = |path: &str| found.functions.iter().find(|one| one.path == path).unwrap();
+        let put = one("crate::put");
+        assert_eq!(
+            (&put.names[..], &put.types[..]),
+            (&["N".to_string()][..], &["T".to_string()][..])
+        );
+        let wide = one("crate::Wide::wide");
+        assert_eq!(
+            (&wide.names[0], &wide.types[0]),
+            (&"width".to_string(), &"Self".to_string())
+        );
+        assert_eq!(wide.parameters[0].passed, Passed::Shared);
+        let from = |of: &str| {
+            one(&format!("crate::<Code as From<{of}>>::from"))
+                .gives
+                .clone()
+        };
+        assert_eq!(from("[u8; 16]").as_deref(), Some(" λ x r. r ≡ f x "));
+        assert_eq!(from("Line").as_deref(), Some(""));
+        let blocks: Vec<_> = found
+            .blocks
+            .iter()
+            .map(|one| (one.path.as_str(), one.members.len()))
+            .collect();
+        let expected = [
+            ("crate::<Parsed<F> as fmt::Display>", 0),
+            ("crate::<Code as From<&Line<'_, u8>>>", 0),
+            ("crate::<Window<'_> as Model>", 2),
+            ("crate::Wide", 1),
+            ("crate::Near", 0),
+            ("crate::<u16 as Wide>", 1),
+            ("crate::<Code as From<[u8; 16]>>", 1),
+            ("crate::<Code as From<Line>>", 0),
+            ("crate::<Code as From<a::Line>>", 0),
+            ("crate::<[u8; 16] as TryFrom<u8>>", 0),
+            ("crate::<Code as fmt::Display>", 0),
+        ];
+        assert_eq!(blocks, expected);
+        assert_eq!(found.fields["crate::Window"], ["start", "bytes", "last"]);
+        assert!(found.imports.contains("window") && found.imports.contains("inside"));
+    }
+
+    #[test]
+    fn a_private_type_hides_what_it_is_converted_from() {
+        for (text, public) in [
+            ("struct P { a: u8 } impl From<P> for u8 { fn from(x: P) -> u8 { 1 } }", false),
+            ("impl From<Option<P>> for u8 { fn from(x: Option<P>) -> u8 { 1 } } enum P {}", false),
+            ("pub(crate) struct P { a: u8 } impl TryFrom<u8> for P { fn try_from(x: u8) -> R { 1 } }", false),
+            ("pub struct P { a: u8 } impl From<P> for u8 { fn from(x: P) -> u8 { 1 } }", true),
+            ("struct P { a: u8 } impl From<a::P> for u8 { fn from(x: a::P) -> u8 { 1 } }", true),
+            ("mod a { struct P { a: u8 } } impl From<P> for u8 { fn from(x: P) -> u8 { 1 } }", true),
+            ("struct P { a: u8 } impl From<[u8; P]> for u8 { fn from(x: [u8; P]) -> u8 { 1 } }", true),
+            ("type P = u8; impl From<P> for Q { fn from(x: P) -> Q { 1 } }", true),
+        ] {
+            assert_eq!(!paths(text).is_empty(), public, "{text}");
+        }
     }
 
     #[test]
@@ -666,9 +841,16 @@ mod tests {
             "pub fn f()",
             "pub fn f();",
             "pub fn f() { ( }",
-            "pub trait T { fn f(self); }",
             "pub fn f<T>(x: T) {}",
+            "pub fn f<T: Fn(u8)>(x: T) {}",
+            "pub fn f<const N: usize = 1>() {}",
             "pub fn f(x: Cell<u8>) {}",
+            "pub fn f(x: Option<&u8>) {}",
+            "pub fn f(x: Option<Cell<u8>>) {}",
+            "pub fn f(x: a::Option<u8>) {}",
+            "pub fn f(x: Words<3>) {}",
+            "pub fn f(x: Words<'a, u8>) {}",
+            "pub fn f(x: impl Fn(u8) -> u8) {}",
             "pub fn f(x: (u8, u8)) {}",
             "pub fn f(x: &impl Print) {}",
             "pub fn f() -> io::Result<()> {}",
@@ -676,8 +858,33 @@ mod tests {
             "fn f(x: (u8, fn g() {})) {}",
             "pub fn f((x): u8) {}",
             "pub fn f<'a>() where 'a: 'a {}",
-            "impl Ring<'a> {}",
-            "impl A for B {}",
+            "impl<T: A> B for Ring<T> {}",
+            "impl B for (u8, u8) {}",
+            "impl a::Ring {}",
+            "impl A for &B {}",
+            "impl A<u8> for B {}",
+            "impl A for B as AB {}",
+            "pub impl B {}",
+            "impl A for B { pub fn f() {} }",
+            "impl A for B { fn f() ensures { x } {} }",
+            "impl A for B { fn f(); }",
+            "impl A for B { ghost m: { x }; }",
+            "impl A for B { ghost m = { x -- y }; }",
+            "impl A for B { mod c {} }",
+            "impl B { ghost m = { x }; }",
+            "impl B { type C = u8; }",
+            "trait T<A> {}",
+            "trait T: A<u8> {}",
+            "trait T { pub fn f(); }",
+            "trait T { final fn f() {} }",
+            "trait T { ghost m = { x }; }",
+            "trait T { ghost m: { x } = { y }; }",
+            "trait T { type A; }",
+            "trait From { fn f(); }",
+            "trait Option {}",
+            "use a::From;",
+            "use a::{b, TryFrom};",
+            "use std::cell::Cell as Option;",
             "pub use a::b;",
             "extern { fn f(); }",
             "pub extern \"C\" fn f() {}",
@@ -693,7 +900,22 @@ mod tests {
             "fn f() ensures* { x } {}",
             "fn f() ensures named twice { x } {}",
             "type M = &mut [u8];",
-            "struct W { d: &mut [u8] }",
+            "type M<T> = [T; 2];",
+            "pub struct W { d: &mut [u8] }",
+            "pub struct W<'a> { d: &'a mut [u8] }",
+            "pub struct W<'a>(&'a mut [u8]);",
+            "pub struct W<'a> { d: Option<&'a [u8]> }",
+            "pub struct W { d: Cell<u8> }",
+            "pub struct W<T> { d: T }",
+            "pub struct W { d: u8, ghost e: { x } }",
+            "struct W { d: u8, ghost e = { x } }",
+            "struct W { d: u8, ghost e: { x -- y } }",
+            "struct W { d: [u8; { fn f() {} }] }",
+            "struct W { d: Vec<fn()> }",
+            "pub enum W { A(&u8) }",
+            "pub enum W<'a> { A(&'a u8) }",
+            "pub enum W { A { d: &u8 } }",
+            "enum W { A = f() }",
             "ghost use a.B;",
             "static X: u8 = 1;",
             "pub(self) fn f() {}",

@@ -9,7 +9,7 @@ use crate::lex::{antt, bare, Word};
 const PRELUDE: &str = "Rattle.std.specs.Prelude";
 
 /// The symbols. What stands in a clause beside these is a name of the library or of specs/.
-const SYMBOLS: [&str; 37] = [
+const SYMBOLS: [&str; 43] = [
     "◌≡◌",
     "◌≢◌",
     "◌<◌",
@@ -47,6 +47,12 @@ const SYMBOLS: [&str; 37] = [
     "suc",
     "Bool",
     "List",
+    "Option",
+    "Some",
+    "None",
+    "Result",
+    "Ok",
+    "Err",
 ];
 
 /// The language's own, which is taken from nowhere.
@@ -267,6 +273,7 @@ mod tests {
             "  length : List ℕ → ℕ",
             "pub slice_set : ℕ",
             "pub «true» : ℕ",
+            "abbrev pub Ok : ℕ → ℕ",
             "◌×◌ : Type 0 → Type 0 → Type 0",
         ] {
             let text = format!("use Rattle.std.specs.Prelude.{{ℕ}}\n{line}\n");

@@ -177,6 +177,98 @@ contracts: 2 public functions, 1 loose, 0 faults
     assert_eq!(status, Some(1));
 }
 
+/// A library with a type that holds a reference, a trait and a conversion.
+const WINDOW: &str = "ghost use Rattle.std.specs.Prelude.{◌≡◌, ℕ};
+ghost use Rattle.trb.specs.Lib.{Memory, window, number_at, pair_of};
+
+#[derive(Drop)]
+pub struct Window<'a> { start: u64, bytes: &'a [u8] }
+
+impl<'a> Model for Window<'a> {
+    ghost Value = { Memory };
+    ghost view = { λ w. window w.start w.bytes.now };
+}
+
+pub trait FromWindow {
+    ghost width: { ℕ };
+    fn read(mem: &Window<'_>, address: u64) -> Option<Self>
+        ensures { result ≡ number_at mem.now address width };
+}
+
+impl FromWindow for u16 {
+    ghost width = { 2 };
+    fn read(mem: &Window<'_>, address: u64) -> Option<u16> { Some(2) }
+}
+
+impl From<u16> for Pair {
+    ghost from_gives = { λ x r. r ≡ pair_of x };
+    fn from(x: u16) -> Pair { Pair(x, x) }
+}
+";
+
+/// The same as the compiler prints it.
+const WINDOW_HEADS: &str = "== crates/trb/src/window.rt
+ghost use Rattle.std.specs.Prelude.{◌≡◌, ℕ};
+ghost use Rattle.trb.specs.Lib.{Memory, window, number_at, pair_of};
+# [ derive ( Drop ) ] pub struct Window < 'a > { start : u64 , bytes : & 'a [ u8 ] , }
+impl < 'a > Model for Window < 'a > {
+    ghost Value = { Memory };
+    ghost view = { λ w. window w.start w.bytes.now };
+}
+pub trait FromWindow {
+    ghost width: { ℕ };
+fn read ( mem : & Window < '_ > , address : u64 ) -> Option < Self >
+        ensures { result ≡ number_at mem.now address width } ;
+}
+# [ read_as = \"0f\" ] impl FromWindow for u16 as U16FromWindow {
+    ghost width = { 2 };
+fn read ( mem : & Window < '_ > , address : u64 ) -> Option < u16 > ;
+}
+# [ read_as = \"0f\" ] impl From < u16 > for Pair as PairFromU16 {
+    ghost from_gives = { λ x r. r ≡ pair_of x };
+fn from ( x : u16 ) -> Pair ;
+}
+";
+
+#[test]
+fn traits_and_impls_are_read_twice() {
+    let made = repository("window");
+    made.write("crates/trb/src/lib.rt", "pub mod ring;\npub mod window;\n");
+    made.write("crates/trb/src/window.rt", WINDOW);
+    let rows = "| `trb::window::FromWindow::read` | number_at |
+| `trb::window::<Pair as From<u16>>::from` | pair_of |\n";
+    made.write("docs/PROMISES.md", &format!("{rows}{PROMISES}"));
+    let heads = format!("{HEADS}{WINDOW_HEADS}");
+    let (status, text) = made.check_beside(&heads);
+    let expected = "\
+contracts: 1 crates are read twice, here and by the compiler
+contracts: 4 public functions, 1 loose, 0 faults
+";
+    assert_eq!(text, expected);
+    assert_eq!(status, Some(0));
+    for (printed, other, what) in [
+        (
+            "width = { 2 }",
+            "width = { 4 }",
+            "window.rt:18: trb::window::<u16 as FromWindow>: is not as",
+        ),
+        (
+            "pair_of x",
+            "pair_of 0",
+            "trb::window::<Pair as From<u16>>::from: is not as",
+        ),
+        (
+            "window w.start",
+            "window 0",
+            "window.rt:7: trb::window::<Window<'a> as Model>: is not as",
+        ),
+    ] {
+        let (status, text) = made.check_beside(&heads.replace(printed, other));
+        assert!(text.contains(what), "{text}");
+        assert_eq!(status, Some(1));
+    }
+}
+
 #[test]
 fn what_cannot_be_read_is_told() {
     let made = repository("unread");
