@@ -6,10 +6,10 @@
 //! SUBJECT  = result                  passed by value
 //!          = result.now, result.ref_ptr   a reference's: what stands there, and where
 //!          = p.new                   what a parameter lends, at the end
-//! TERM     = numbers, names that a `ghost use` of the file brings in, the constructors of `Option` and `Result`, parameters passed
-//!            by value, as `p` or `p.entry`, of the others `p.old` where it lends something to be changed, `p.now` where to be read,
-//!            and `p.entry.ref_ptr`; const parameters, the trait's own members, and a type parameter's as `T.m`; fields after a
-//!            dot, parentheses, a comma, and the operators of `SIGNS`; all but these in ASCII
+//! TERM     = numbers, names that a `ghost use` of the file brings in, and `m.name` of a module, the constructors of `Option` and
+//!            `Result`, parameters passed by value, as `p` or `p.entry`, of the others `p.old` where it lends something to be
+//!            changed, `p.now` where to be read, and `p.entry.ref_ptr`; const parameters, the trait's own members, and a type
+//!            parameter's as `T.m`; fields after a dot, parentheses, a comma, and the operators of `SIGNS`; all but these in ASCII
 //! ```
 //!
 //! and what is not of this form is a fault. A term says nothing of the result or of any value at exit, binds no name and
@@ -24,12 +24,8 @@
 //! KIND  = names that are brought in, `Self`, parentheses and →
 //! ```
 
-use std::collections::HashSet;
-
 use crate::lex::{antt, bare, Word};
-use crate::source::{Function, Parameter, Passed};
-
-type Names = HashSet<String>;
+use crate::source::{Function, Imports, Parameter, Passed};
 
 /// What an equation is of.
 #[derive(Clone, Debug, PartialEq, Eq)]
@@ -63,7 +59,11 @@ const SIGNS: [(&str, &str); 7] = [
 const CONSTRUCTORS: [&str; 4] = ["Some", "None", "Ok", "Err"];
 
 /// What the clause of a function equates, or why it is not known.
-pub fn equated(clause: &str, function: &Function, imports: &Names) -> Result<Vec<Subject>, String> {
+pub fn equated(
+    clause: &str,
+    function: &Function,
+    imports: &Imports,
+) -> Result<Vec<Subject>, String> {
     let scope = Scope {
         parameters: &function.parameters,
         names: &function.names,
@@ -76,7 +76,7 @@ pub fn equated(clause: &str, function: &Function, imports: &Names) -> Result<Vec
 }
 
 /// Why a member does not give, by an equation, what a function answers.
-pub fn gives(text: &str, imports: &Names) -> Result<(), String> {
+pub fn gives(text: &str, imports: &Imports) -> Result<(), String> {
     let (names, clause) = lambda(text)?;
     let (given, result) = match names[..] {
         [given, result] if result != "_" => (variables(&[given]), result),
@@ -93,14 +93,14 @@ pub fn gives(text: &str, imports: &Names) -> Result<(), String> {
 }
 
 /// Why a member that an impl gives is no term, nor a `λ` of one.
-pub fn given(text: &str, imports: &Names) -> Result<(), String> {
+pub fn given(text: &str, imports: &Imports) -> Result<(), String> {
     let (names, term) = lambda(text)?;
     Scope::over(&variables(&names), imports).term(&words(term)?)
 }
 
 /// Why a member is no view, which says what contracts see of a struct with these fields: one that left a field out would have them be
 /// silent of it.
-pub fn view(text: &str, fields: &[String], imports: &Names) -> Result<(), String> {
+pub fn view(text: &str, fields: &[String], imports: &Imports) -> Result<(), String> {
     let (names, term) = lambda(text)?;
     let [name] = names[..] else {
         return Err("is not of the form `λ w. ..`".to_string());
@@ -119,7 +119,7 @@ pub fn view(text: &str, fields: &[String], imports: &Names) -> Result<(), String
 }
 
 /// Why a text is not the type of a member.
-pub fn kind(text: &str, imports: &Names) -> Result<(), String> {
+pub fn kind(text: &str, imports: &Imports) -> Result<(), String> {
     let known = |word: &str| ["Self", "→", "(", ")"].contains(&word) || imports.contains(word);
     let plain = |word: &str| word.is_ascii() && word != "_" || ["→", "ℕ"].contains(&word);
     match words(text)?
@@ -233,7 +233,7 @@ struct Scope<'a> {
     /// Further names, and types whose members are known.
     names: &'a [String],
     types: &'a [String],
-    imports: &'a Names,
+    imports: &'a Imports,
     /// What the clause calls the value that the function returns.
     result: &'a str,
     /// Whether a parameter's fields may be references.
@@ -242,7 +242,7 @@ struct Scope<'a> {
 
 impl<'a> Scope<'a> {
     /// Of the variables of a `λ`, with no result.
-    fn over(parameters: &'a [Parameter], imports: &'a Names) -> Self {
+    fn over(parameters: &'a [Parameter], imports: &'a Imports) -> Self {
         Scope {
             parameters,
             names: &[],
@@ -274,6 +274,7 @@ impl<'a> Scope<'a> {
         let others = [self.names, self.types].concat();
         if self.parameter(result).is_some()
             || self.imports.contains(result)
+            || self.imports.modules.contains(result)
             || others.iter().any(|name| name == result)
         {
             return Err(format!("speaks of `{result}`, which is another thing's"));
@@ -348,6 +349,7 @@ impl<'a> Scope<'a> {
         let field = |name: &str, field: &str| is(name, Passed::Value) && plain(field);
         let hidden = |name: &str| self.parameter(name).is_some();
         let typed = |name: &str| !hidden(name) && self.types.iter().any(|one| one == name);
+        let module = |name: &str| !hidden(name) && self.imports.modules.contains(name);
         match words {
             [name, ".", "old", rest @ ..] if is(name, Passed::Lent) => Ok(rest),
             [name, ".", "now", rest @ ..] if is(name, Passed::Shared) => Ok(rest),
@@ -355,6 +357,7 @@ impl<'a> Scope<'a> {
             [name, ".", "entry", rest @ ..] if is(name, Passed::Value) => Ok(rest),
             [name, ".", f, ".", "now", rest @ ..] if self.of_fields && field(name, f) => Ok(rest),
             [name, ".", member, rest @ ..] if typed(name) && plain(member) => Ok(rest),
+            [name, ".", one, rest @ ..] if module(name) && plain(one) => Ok(rest),
             [".", "new" | "exit", ..] => Err(AT_EXIT.to_string()),
             [name, ".", "new" | "exit", ..] if lent(name) => Err(AT_EXIT.to_string()),
             [".", field @ ("old" | "now" | "entry"), ..] => Err(format!("has `.{field}`")),
@@ -383,7 +386,7 @@ impl<'a> Scope<'a> {
         let sign = SIGNS.iter().find(|(sign, _)| *sign == word);
         let named = self.imports.contains(word) || self.names.iter().any(|name| name == word);
         let known = match sign {
-            Some((_, name)) => self.imports.contains(*name),
+            Some((_, name)) => self.imports.contains(name),
             None if CONSTRUCTORS.contains(&word) => true,
             None => named && word.is_ascii() && word != "_" || number(word),
         };
@@ -425,7 +428,7 @@ mod tests {
             ..Function::default()
         };
         let imports = ["f", "g", "[]", "max_len", "◌+◌", "◌∷◌"];
-        equated(clause, &function, &imports.map(str::to_string).into())
+        equated(clause, &function, &of_names(&imports))
     }
 
     #[test]
@@ -439,6 +442,7 @@ mod tests {
             "result ≡ f n.entry N",
             "result ≡ Ok (Some (f n))",
             "result ≡ f made T.made s.now.place T.width.x",
+            "result ≡ m.put (m.words_of n) s.now",
         ] {
             assert_eq!(of(clause), Ok(vec![Subject::Result]), "{clause}");
         }
@@ -500,6 +504,10 @@ mod tests {
             "result ≡ U.made",
             "result ≡ T.made.now",
             "result ≡ mem.width",
+            "result ≡ m",
+            "result ≡ k.put n",
+            "result ≡ mem.put n",
+            "m.put n ≡ n",
             "IfOk result (λ r. r ≡ n)",
             "OnOk result (mem.new ≡ f n)",
         ] {
@@ -507,9 +515,17 @@ mod tests {
         }
     }
 
-    fn imports() -> Names {
-        let names = ["f", "g", "ℕ", "Memory", "◌+◌"];
-        names.map(str::to_string).into()
+    /// What brings in these names, and the module `m`, also as `mem`.
+    fn of_names(names: &[&str]) -> Imports {
+        let owned = |name: &&str| name.to_string();
+        Imports {
+            names: names.iter().map(owned).collect(),
+            modules: ["m", "mem"].iter().map(owned).collect(),
+        }
+    }
+
+    fn imports() -> Imports {
+        of_names(&["f", "g", "ℕ", "Memory", "◌+◌"])
     }
 
     #[test]

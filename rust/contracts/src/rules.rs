@@ -6,7 +6,7 @@ use crate::clause::{equated, given, gives, kind, view, Subject};
 use crate::fault::Fault;
 use crate::pages::{Item, Promises};
 use crate::source::{
-    converts, only_shows, Block, Function, Kind, Member, Parameter, Passed, Source,
+    converts, only_shows, Block, Function, Imports, Kind, Member, Parameter, Passed, Source,
 };
 use crate::tree;
 
@@ -21,7 +21,7 @@ pub fn reason<'a>(function: &Function, loose: &'a [Item]) -> Option<&'a Item> {
 
 /// The contract asks nothing of the caller, and gives the result and all that is lent to be changed by equations. A
 /// function in docs/LOOSE.md may give less, but has an `ensures`, unless the reason says that it has none.
-pub fn contract(function: &Function, imports: &HashSet<String>, loose: &[Item]) -> Vec<Fault> {
+pub fn contract(function: &Function, imports: &Imports, loose: &[Item]) -> Vec<Fault> {
     let mut wrong = Vec::new();
     if function.requires {
         wrong.push("has a `requires`; a public function refuses, and asks nothing".to_string());
@@ -44,7 +44,7 @@ pub fn contract(function: &Function, imports: &HashSet<String>, loose: &[Item]) 
 
 /// What the `ensures` clauses, taken together, do not give by an equation; or the clause that is not known. A function of an impl of
 /// `From` or `TryFrom` has none, and gives its result by a member.
-fn unstated(function: &Function, imports: &HashSet<String>) -> Vec<String> {
+fn unstated(function: &Function, imports: &Imports) -> Vec<String> {
     if let Some(text) = &function.gives {
         let name = function.path.rsplit("::").next().unwrap_or("");
         let told = |what| format!("its `{name}_gives` {what}");

@@ -80,10 +80,22 @@ pub struct Source {
     pub blocks: Vec<Block>,
     /// The fields of its structs, by their paths.
     pub fields: HashMap<String, Vec<String>>,
-    /// The names that its `ghost use` items bring in.
-    pub imports: HashSet<String>,
-    /// Those items as antt, each at its line.
+    pub imports: Imports,
+    /// Its `ghost use` items as antt, each at its line.
     pub uses: String,
+}
+
+/// What the `ghost use` items of a file bring in: names, and modules of specs/ under a name.
+#[derive(Clone, Debug, Default)]
+pub struct Imports {
+    pub names: HashSet<String>,
+    pub modules: HashSet<String>,
+}
+
+impl Imports {
+    pub fn contains(&self, name: &str) -> bool {
+        self.names.contains(name)
+    }
 }
 
 impl Function {
@@ -424,31 +436,27 @@ impl<'a> Parser<'a> {
         }
     }
 
-    /// `ghost use M.{a, b as c};` The names that it brings in are kept, and its text for whoever asks where they are from. A name is
-    /// from one place, in whatever block it is brought in.
+    /// `ghost use M.{a, b as c};`, or `ghost use Rattle.C.specs.M as m;` The names that it brings in are kept, and its text for whoever asks
+    /// where they are from.
     fn ghost_use(&mut self) -> Read<()> {
         self.expect("use")?;
         let text = self.lexer.until_semicolon()?;
         let words: Vec<&str> = antt(text.text).iter().map(|word| bare(word.text)).collect();
         let open = words.iter().position(|word| *word == "{");
-        let (Some(open), Some("}")) = (open, words.last().copied()) else {
-            return self
-                .lexer
-                .trouble("has a `ghost use` that names nothing in braces");
-        };
-        let module = words[..open].concat();
-        for item in words[open + 1..words.len() - 1].split(|word| *word == ",") {
-            let ([from @ name] | [from, "as", name]) = item else {
+        match (&words[..], open) {
+            (["Rattle", ".", _, ".", "specs", ".", _, "as", name], None) => {
+                self.hold_to_one_place(name, words[..7].concat())?;
+                self.found.imports.modules.insert(name.to_string());
+            }
+            ([.., "}"], Some(open)) => {
+                let names = &words[open + 1..words.len() - 1];
+                self.brought_in(&words[..open].concat(), names)?;
+            }
+            _ => {
                 return self
                     .lexer
-                    .trouble("has a `ghost use` of a form that is not known here");
-            };
-            let (name, home) = (name.to_string(), format!("{module}{from}"));
-            if *self.homes.entry(name.clone()).or_insert(home.clone()) != home {
-                let what = format!("brings in `{name}` from two places");
-                return self.lexer.trouble(what);
+                    .trouble("has a `ghost use` that names nothing in braces")
             }
-            self.found.imports.insert(name);
         }
         let before = self.found.uses.matches('\n').count() + 1;
         let lines = "\n".repeat(text.line.saturating_sub(before));
@@ -456,6 +464,30 @@ impl<'a> Parser<'a> {
             .uses
             .push_str(&format!("{lines}use {}\n", text.text.trim()));
         Ok(())
+    }
+
+    /// The names of `a, b as c`.
+    fn brought_in(&mut self, module: &str, names: &[&str]) -> Read<()> {
+        for item in names.split(|word| *word == ",") {
+            let ([from @ name] | [from, "as", name]) = item else {
+                return self
+                    .lexer
+                    .trouble("has a `ghost use` of a form that is not known here");
+            };
+            self.hold_to_one_place(name, format!("{module}{from}"))?;
+            self.found.imports.names.insert(name.to_string());
+        }
+        Ok(())
+    }
+
+    /// A name is from one place, in whatever block it is brought in.
+    fn hold_to_one_place(&mut self, name: &str, home: String) -> Read<()> {
+        let known = self.homes.entry(name.to_string()).or_insert(home.clone());
+        if *known == home {
+            return Ok(());
+        }
+        self.lexer
+            .trouble(format!("brings in `{name}` from two places"))
     }
 
     /// Passes all up to the word that ends what is here. Brackets are counted; the words of items, and those given, are
@@ -822,13 +854,20 @@ mod tests {
     fn names_that_are_brought_in_are_known_at_their_lines() {
         let text = "// one\nghost use a.B.{c, d as e,\n «f_g»};\n\nghost use h.{◌≡◌};";
         let found = found(text);
-        let mut names: Vec<_> = found.imports.into_iter().collect();
+        let mut names: Vec<_> = found.imports.names.into_iter().collect();
         names.sort();
         assert_eq!(names, ["c", "e", "f_g", "◌≡◌"]);
         assert_eq!(
             found.uses,
             "\nuse a.B.{c, d as e,\n «f_g»}\n\nuse h.{◌≡◌}\n"
         );
+    }
+
+    #[test]
+    fn a_module_is_brought_in_under_a_name() {
+        let found = found("ghost use Rattle.a.specs.B as b;");
+        assert!(found.imports.modules.contains("b") && !found.imports.contains("b"));
+        assert_eq!(found.uses, "use Rattle.a.specs.B as b\n");
     }
 
     #[test]
@@ -917,6 +956,12 @@ mod tests {
             "pub enum W { A { d: &u8 } }",
             "enum W { A = f() }",
             "ghost use a.B;",
+            "ghost use Rattle.a.specs.B;",
+            "ghost use Rattle.a as b;",
+            "ghost use Rattle.a.specs as b;",
+            "ghost use Rattle.a.proofs.B as b;",
+            "ghost use Rattle.a.specs.B as b; ghost use Rattle.a.specs.C as b;",
+            "ghost use Rattle.a.specs.B as b; ghost use a.{b};",
             "static X: u8 = 1;",
             "pub(self) fn f() {}",
         ] {
