@@ -1,87 +1,129 @@
-// Lines about guest memory and the rings in it. Each function answers the numbers of the line's answer; a TRB's halves are 13 and 14.
-use crate::input::swapped;
-use crate::trbs;
+// Lines about guest memory and the rings in it.
+ghost use Rattle.std.specs.Prelude.{◌≤◌, length};
+
+use crate::input::Numbers;
+use crate::trbs::{Event, Trb};
 use lomvigast_ffi::rings::CEventRing;
 use lomvigast_ffi::{linked, memory, rings};
+use std::io;
+use std::io::Write;
 
 // The original's memory begins at 0.
 const START: u64 = 0;
 
-// A memory of zeros and a new event ring.
-pub(crate) fn make(memory: &mut [u8], ring: &mut CEventRing) -> [u64; 16] {
-    memory.fill(0);
-    rings::lomvigast_reset(ring);
-    [0u64; 16]
+// The memory that an M line made, which is so much of the room, and the event ring in it.
+#[derive(Drop)]
+pub(crate) struct Guest<'a> {
+    room: &'a mut [u8],
+    size: usize,
+    ring: CEventRing,
+    ghost within: { size ≤ length room.now },
 }
 
-// Sixteen bytes put into memory.
-pub(crate) fn poke(given: &[u64; 16], memory: &mut [u8]) -> [u64; 16] {
-    let low = swapped(given[2]);
-    let high = swapped(given[3]);
-    let mut v = [0u64; 16];
-    v[0] = memory::lomvigast_write_trb(START, memory, given[1], low, high) as u64;
-    v
-}
-
-// A linked ring set to a place, then, on an S line, advanced, and, on an N line, asked for its next TRB.
-pub(crate) fn linked(letter: u8, given: &[u64; 16], memory: &[u8]) -> [u64; 16] {
-    let mut ring = [0u64; 2];
-    linked::lomvigast_set_place(&mut ring, given[1], given[2] == 1);
-    let mut v = [0u64; 16];
-    if letter == b'S' {
-        linked::lomvigast_advance(&mut ring);
-        v[0] = ring[0];
-        v[1] = ring[1];
-        return v;
+impl<'a> Guest<'a> {
+    pub(crate) fn new(room: &'a mut [u8]) -> Guest<'a> {
+        Guest {
+            room,
+            size: 0,
+            ring: [0; 7],
+        }
     }
-    let c = linked::lomvigast_next_trb(START, memory, &mut ring);
-    v[0] = c.kind % 0x100;
-    v[1] = c.kind / 0x100;
-    v[2] = c.address;
-    v[3] = ring[0];
-    v[4] = ring[1];
-    v[5] = c.notes % 0x1_0000;
-    v[6] = c.notes / 0x1_0000 % 0x100;
-    v[7] = c.notes / 0x100_0000;
-    v[13] = swapped(c.low);
-    v[14] = swapped(c.high);
-    v
+
+    // Makes so much of the room memory, and answers whether the room has so much.
+    pub(crate) fn resize(&mut self, size: u64) -> bool {
+        let fits = size <= self.room.len() as u64;
+        if fits {
+            self.size = size as usize;
+        }
+        fits
+    }
+
+    // A memory of zeros and a new event ring.
+    pub(crate) fn make(&mut self, given: &Numbers, text: &mut impl Write) -> io::Result<()> {
+        self.room[..self.size].fill(0);
+        rings::lomvigast_reset(&mut self.ring);
+        write!(text, " {:x}:", given[1])
+    }
+
+    // Sixteen bytes put into memory.
+    pub(crate) fn poke(&mut self, given: &Numbers, text: &mut impl Write) -> io::Result<()> {
+        let address = given[1];
+        let trb = Trb::read(given[2], given[3]);
+        let memory = &mut self.room[..self.size];
+        let refusal = memory::lomvigast_write_trb(START, memory, address, trb.low, trb.high);
+        write!(text, " {address:x} {trb}:")?;
+        if refusal != 0 {
+            write!(text, " {refusal:x}")?;
+        }
+        Ok(())
+    }
+
+    // A linked ring set to a place and asked for its next TRB.
+    pub(crate) fn chase(&self, given: &Numbers, text: &mut impl Write) -> io::Result<()> {
+        let [_, place, cycle, ..] = *given;
+        let mut ring = [0; 2];
+        linked::lomvigast_set_place(&mut ring, place, cycle == 1);
+        let memory = &self.room[..self.size];
+        let chase = linked::lomvigast_next_trb(START, memory, &mut ring);
+        let answer = chase.kind & 0xff;
+        let refusal = chase.kind >> 8;
+        let address = chase.address;
+        let [next, next_cycle] = ring;
+        let links = chase.notes & 0xffff;
+        let cleared = chase.notes >> 16 & 0xff;
+        let completion = chase.notes >> 24;
+        let trb = Trb {
+            low: chase.low,
+            high: chase.high,
+        };
+        write!(text, " {place:x} {:x}:", cycle & 1)?;
+        write!(text, " {answer:x} {refusal:x} {address:x}")?;
+        write!(text, " {next:x} {next_cycle:x} {links:x}")?;
+        write!(text, " {cleared:x} {completion:x} {trb}")
+    }
+
+    pub(crate) fn configure(&mut self, given: &Numbers, text: &mut impl Write) -> io::Result<()> {
+        let table = given[1];
+        let entries = (given[2] & 0xffff) as u16;
+        let memory = &self.room[..self.size];
+        let refusal = rings::lomvigast_configure(START, memory, &mut self.ring, table, entries);
+        write!(text, " {table:x} {entries:x}:")?;
+        self.state(refusal, text)
+    }
+
+    pub(crate) fn add(&mut self, given: &Numbers, text: &mut impl Write) -> io::Result<()> {
+        let event = Event::from(*given);
+        let words = event.words();
+        let report = given[9];
+        let memory = &mut self.room[..self.size];
+        let refusal = rings::lomvigast_add(START, memory, &mut self.ring, &words, report);
+        let sum = checksum(memory);
+        write!(text, " {event} {report:x}:")?;
+        self.state(refusal, text)?;
+        write!(text, " {sum:x}")
+    }
+
+    // The refusal and the event ring's state.
+    fn state(&self, refusal: u8, text: &mut impl Write) -> io::Result<()> {
+        let [_, place, remaining, index, _, _, cycle] = self.ring;
+        write!(text, " {refusal:x} {index:x}")?;
+        write!(text, " {place:x} {remaining:x} {cycle:x}")
+    }
 }
 
-// The refusal and the ring's state, and the memory's sum.
-fn state(refusal: u8, ring: &CEventRing, sum: u64) -> [u64; 16] {
-    let mut v = [0u64; 16];
-    v[0] = refusal as u64;
-    v[1] = ring[3];
-    v[2] = ring[1];
-    v[3] = ring[2];
-    v[4] = ring[6];
-    v[5] = sum;
-    v
+// A linked ring set to a place and advanced.
+pub(crate) fn step(given: &Numbers, text: &mut impl Write) -> io::Result<()> {
+    let [_, place, cycle, ..] = *given;
+    let mut ring = [0; 2];
+    linked::lomvigast_set_place(&mut ring, place, cycle == 1);
+    linked::lomvigast_advance(&mut ring);
+    let [next, next_cycle] = ring;
+    write!(text, " {place:x} {:x}: {next:x} {next_cycle:x}", cycle & 1)
 }
 
-pub(crate) fn configure(given: &[u64; 16], memory: &[u8], ring: &mut CEventRing) -> [u64; 16] {
-    let entries = (given[2] % 0x1_0000) as u16;
-    let refusal = rings::lomvigast_configure(START, memory, ring, given[1], entries);
-    state(refusal, ring, 0)
-}
-
-// FNV-1a's step: the product of what is summed and the prime, 2^40 + 0x1b3, modulo 2^64.
-fn fnv(sum: u64, b: u8) -> u64 {
-    (sum ^ (b as u64)).wrapping_mul(0x100_0000_01b3)
-}
-
-// FNV-1a, 64 bits, of all bytes.
+// FNV-1a, 64 bits, of all bytes. The prime is 2^40 + 0x1b3.
 fn checksum(memory: &[u8]) -> u64 {
-    let mut sum: u64 = 0xcbf2_9ce4_8422_2325;
-    for i in 0..memory.len() {
-        sum = fnv(sum, memory[i]);
-    }
-    sum
-}
-
-pub(crate) fn add(given: &[u64; 16], memory: &mut [u8], ring: &mut CEventRing) -> [u64; 16] {
-    let event = trbs::event(given);
-    let refusal = rings::lomvigast_add(START, memory, ring, &event, given[9]);
-    state(refusal, ring, checksum(memory))
+    memory.iter().fold(0xcbf2_9ce4_8422_2325, |sum: u64, b| {
+        (sum ^ u64::from(*b)).wrapping_mul(0x100_0000_01b3)
+    })
 }

@@ -1,147 +1,261 @@
-// Lines about single TRBs: the parsers, and events written. Each function answers the numbers of the line's answer; a TRB's halves are 13
-// and 14. Of a word's fields the last is taken with all above it, so that what should be 0 there shows.
-use crate::input::swapped;
+// Lines about single TRBs: the parsers, and events written. Of a word's fields the last is taken with all above it, so that what should
+// be 0 there shows.
+use crate::input::Numbers;
+use std::io::Write;
+use std::{fmt, io};
 use trb_ffi::{commands, events, parts, transfers};
 
-// The refusal that the words hold, the type beside it, and the TRB, whose bytes stand from byte 1 on.
-fn refused(a: u64, b: u64, c: u64) -> [u64; 16] {
-    let mut v = [0u64; 16];
-    v[0] = c / 0x100 % 0x100;
-    v[1] = c / 0x1_0000;
-    v[13] = swapped(a / 0x100 % 0x100_0000_0000_0000 + b % 0x100 * 0x100_0000_0000_0000);
-    v[14] = swapped(b / 0x100 % 0x100_0000_0000_0000 + c % 0x100 * 0x100_0000_0000_0000);
-    v
+#[derive(Clone, Copy, Default)]
+pub(crate) struct Trb {
+    pub(crate) low: u64,
+    pub(crate) high: u64,
 }
 
-fn command(low: u64, high: u64) -> [u64; 16] {
-    let mut words = [0u64; 3];
-    commands::lomvigast_parse_command(&mut words, low, high);
-    let a = words[0];
-    let b = words[1];
-    let c = words[2];
-    let mut v = [0u64; 16];
-    v[1] = a % 0x100;
-    match a % 0x100 {
-        0 => return refused(a, b, c),
-        10 | 17 => {
-            v[7] = a / 0x100;
-        }
-        11..=13 => {
-            v[2] = b;
-            v[4] = c / 0x100;
-            v[7] = c % 0x100;
-        }
-        14 | 15 => {
-            v[6] = a / 0x100 % 0x100;
-            v[7] = a / 0x1_0000;
-        }
-        16 => {
-            v[2] = b;
-            v[3] = c % 0x1_0000;
-            v[4] = c / 0x1_0000_0000 % 0x100;
-            v[5] = c / 0x100_0000_0000;
-            v[6] = c / 0x1_0000 % 0x100;
-            v[7] = c / 0x100_0000 % 0x100;
-        }
-        _ => {}
-    }
-    v
-}
-
-fn transfer(low: u64, high: u64) -> [u64; 16] {
-    let mut words = [0u64; 4];
-    transfers::lomvigast_parse_transfer(&mut words, low, high);
-    let a = words[0];
-    let b = words[1];
-    let c = words[2];
-    let mut v = [0u64; 16];
-    v[1] = a % 0x100;
-    match a % 0x100 {
-        0 => return refused(a, b, c),
-        1 | 3 => {
-            v[2] = b;
-            v[3] = c % 0x1_0000_0000;
-            v[8] = c / 0x100_0000_0000_0000;
-            v[9] = c / 0x1_0000_0000 % 0x100;
-            v[10] = c / 0x100_0000_0000 % 0x100;
-            v[11] = c / 0x1_0000_0000_0000 % 0x100;
-            v[12] = words[3];
-        }
-        2 => {
-            v[3] = b % 0x1_0000;
-            v[4] = a / 0x1_0000_0000 % 0x1_0000;
-            v[5] = a / 0x1_0000_0000_0000;
-            v[6] = a / 0x1_0000 % 0x100;
-            v[7] = a / 0x100_0000 % 0x100;
-            v[10] = b / 0x1_0000;
-        }
-        _ => {
-            v[2] = b;
-            v[9] = a / 0x100 % 0x100 + c % 0x100;
-            v[10] = a / 0x1_0000 % 0x100 + c / 0x100 % 0x100;
-            v[12] = a / 0x100_0000;
-        }
-    }
-    v
-}
-
-// What the parser of a C, T or L line says of a TRB.
-pub(crate) fn parsed(letter: u8, given: &[u64; 16]) -> [u64; 16] {
-    let low = swapped(given[1]);
-    let high = swapped(given[2]);
-    match letter {
-        b'C' => command(low, high),
-        b'T' => transfer(low, high),
-        _ => {
-            let l = parts::lomvigast_parse_link(low, high);
-            let mut v = [0u64; 16];
-            v[0] = l.link as u64;
-            v[1] = l.pointer;
-            v[2] = l.cleared as u64;
-            v[3] = l.toggle as u64;
-            v[4] = l.completion as u64;
-            v
+impl Trb {
+    // From its halves in a line.
+    pub(crate) fn read(first: u64, second: u64) -> Trb {
+        Trb {
+            low: first.swap_bytes(),
+            high: second.swap_bytes(),
         }
     }
 }
 
-// The words of the event that a line holds. A Port Status Change has the code 1, which they do not say: with another there is no event.
-pub(crate) fn event(given: &[u64; 16]) -> [u64; 3] {
-    let kind = given[1];
-    let code = given[4] % 0x100;
-    let coded = given[3] % 0x1_0000_0000 + code * 0x1_0000_0000;
-    let slot = given[7] % 0x100;
-    match kind {
-        32 => {
-            let flag = given[5] % 2 * 0x100_0000_0000;
-            let endpoint = given[6] % 0x100 * 0x1_0000_0000_0000;
-            [
-                32,
-                given[2],
-                coded + flag + endpoint + slot * 0x100_0000_0000_0000,
-            ]
+impl fmt::Display for Trb {
+    fn fmt<W: fmt::Write>(&self, f: &mut fmt::Formatter<W>) -> fmt::Result {
+        let first = self.low.swap_bytes();
+        let second = self.high.swap_bytes();
+        write!(f, "{first:016x}{second:016x}")
+    }
+}
+
+// What a parser's words say: the type and its fields, or a refusal and the TRB, whose bytes stand in them from byte 1 on.
+fn write_parsed<F: fmt::Display + Default + Drop>(
+    words: [u64; 3],
+    fields: F,
+    text: &mut impl Write,
+) -> io::Result<()> {
+    let [a, b, c] = words;
+    let trb_type = a & 0xff;
+    if trb_type != 0 {
+        return write!(text, "0 {trb_type:x} {fields} {}", Trb::default());
+    }
+    let refusal = c >> 8 & 0xff;
+    let trb_type = c >> 16;
+    let raw = Trb {
+        low: a >> 8 | b << 56,
+        high: b >> 8 | c << 56,
+    };
+    write!(text, "{refusal:x} {trb_type:x} {} {raw}", F::default())
+}
+
+#[derive(Clone, Copy, Default)]
+struct Command {
+    pointer: u64,
+    stream: u64,
+    flag: u64,
+    context_type: u64,
+    endpoint: u64,
+    slot: u64,
+}
+
+impl From<[u64; 3]> for Command {
+    fn from(words: [u64; 3]) -> Command {
+        let [a, b, c] = words;
+        let none = Command::default();
+        match a & 0xff {
+            10 | 17 => Command {
+                slot: a >> 8,
+                ..none
+            },
+            11..=13 => Command {
+                pointer: b,
+                flag: c >> 8,
+                slot: c & 0xff,
+                ..none
+            },
+            14 | 15 => Command {
+                endpoint: a >> 8 & 0xff,
+                slot: a >> 16,
+                ..none
+            },
+            16 => Command {
+                pointer: b,
+                stream: c & 0xffff,
+                flag: c >> 32 & 0xff,
+                context_type: c >> 40,
+                endpoint: c >> 16 & 0xff,
+                slot: c >> 24 & 0xff,
+            },
+            _ => none,
         }
-        33 => [33, given[2], coded + slot * 0x100_0000_0000],
-        34 => {
-            if code != 1 {
-                return [0, 0, 0];
+    }
+}
+
+impl fmt::Display for Command {
+    fn fmt<W: fmt::Write>(&self, f: &mut fmt::Formatter<W>) -> fmt::Result {
+        write!(f, "{:x} {:x}", self.pointer, self.stream)?;
+        write!(f, " {:x} {:x}", self.flag, self.context_type)?;
+        write!(f, " {:x} {:x}", self.endpoint, self.slot)
+    }
+}
+
+pub(crate) fn parse_command(given: &Numbers, text: &mut impl Write) -> io::Result<()> {
+    let trb = Trb::read(given[1], given[2]);
+    let mut words = [0; 3];
+    commands::lomvigast_parse_command(&mut words, trb.low, trb.high);
+    write!(text, " {trb}: ")?;
+    write_parsed(words, Command::from(words), text)
+}
+
+#[derive(Clone, Copy, Default)]
+struct Transfer {
+    pointer: u64,
+    length: u64,
+    value: u64,
+    index: u64,
+    byte_0: u64,
+    byte_1: u64,
+    short: u64,
+    chain: u64,
+    completion: u64,
+    immediate: u64,
+    direction: u64,
+}
+
+impl From<[u64; 4]> for Transfer {
+    fn from(words: [u64; 4]) -> Transfer {
+        let [a, b, c, d] = words;
+        let none = Transfer::default();
+        match a & 0xff {
+            1 | 3 => Transfer {
+                pointer: b,
+                length: c & 0xffff_ffff,
+                short: c >> 56,
+                chain: c >> 32 & 0xff,
+                completion: c >> 40 & 0xff,
+                immediate: c >> 48 & 0xff,
+                direction: d,
+                ..none
+            },
+            2 => Transfer {
+                length: b & 0xffff,
+                value: a >> 32 & 0xffff,
+                index: a >> 48,
+                byte_0: a >> 16 & 0xff,
+                byte_1: a >> 24 & 0xff,
+                completion: b >> 16,
+                ..none
+            },
+            _ => Transfer {
+                pointer: b,
+                chain: (a >> 8 & 0xff) + (c & 0xff),
+                completion: (a >> 16 & 0xff) + (c >> 8 & 0xff),
+                direction: a >> 24,
+                ..none
+            },
+        }
+    }
+}
+
+impl fmt::Display for Transfer {
+    fn fmt<W: fmt::Write>(&self, f: &mut fmt::Formatter<W>) -> fmt::Result {
+        write!(f, "{:x} {:x}", self.pointer, self.length)?;
+        write!(f, " {:x} {:x}", self.value, self.index)?;
+        write!(f, " {:x} {:x}", self.byte_0, self.byte_1)?;
+        write!(f, " {:x} {:x}", self.short, self.chain)?;
+        write!(f, " {:x} {:x}", self.completion, self.immediate)?;
+        write!(f, " {:x}", self.direction)
+    }
+}
+
+// One function for this and `parse_command` would take the parser, the number of its words and the type of the fields.
+pub(crate) fn parse_transfer(given: &Numbers, text: &mut impl Write) -> io::Result<()> {
+    let trb = Trb::read(given[1], given[2]);
+    let mut words = [0; 4];
+    transfers::lomvigast_parse_transfer(&mut words, trb.low, trb.high);
+    let [a, b, c, _] = words;
+    write!(text, " {trb}: ")?;
+    write_parsed([a, b, c], Transfer::from(words), text)
+}
+
+pub(crate) fn parse_link(given: &Numbers, text: &mut impl Write) -> io::Result<()> {
+    let trb = Trb::read(given[1], given[2]);
+    let link = parts::lomvigast_parse_link(trb.low, trb.high);
+    let is_link = u8::from(link.link);
+    let pointer = link.pointer;
+    let cleared = u8::from(link.cleared);
+    let toggle = u8::from(link.toggle);
+    let completion = u8::from(link.completion);
+    write!(text, " {trb}: {is_link} {pointer:x}")?;
+    write!(text, " {cleared} {toggle} {completion}")
+}
+
+#[derive(Clone, Copy)]
+pub(crate) struct Event {
+    // As it was read: above a byte it is no event's.
+    trb_type: u64,
+    pointer: u64,
+    length: u64,
+    code: u64,
+    event_data: u64,
+    endpoint: u64,
+    slot: u64,
+    port: u64,
+}
+
+impl From<Numbers> for Event {
+    fn from(given: Numbers) -> Event {
+        Event {
+            trb_type: given[1],
+            pointer: given[2],
+            length: given[3] & 0xffff_ffff,
+            code: given[4] & 0xff,
+            event_data: given[5] & 1,
+            endpoint: given[6] & 0xff,
+            slot: given[7] & 0xff,
+            port: given[8] & 0xff,
+        }
+    }
+}
+
+impl Event {
+    // A Port Status Change has the code 1, which the words do not say: with another there is no event.
+    pub(crate) fn words(&self) -> [u64; 3] {
+        let coded = self.length | self.code << 32;
+        match self.trb_type {
+            32 => {
+                let flag = self.event_data << 40;
+                let place = self.endpoint << 48 | self.slot << 56;
+                [32, self.pointer, coded | flag | place]
             }
-            [34 + given[8] % 0x100 * 0x100, 0, 0]
+            33 => [33, self.pointer, coded | self.slot << 40],
+            34 if self.code == 1 => [34 | self.port << 8, 0, 0],
+            _ => [0, 0, 0],
         }
-        _ => [0, 0, 0],
     }
 }
 
-pub(crate) fn event_bytes(given: &[u64; 16]) -> [u64; 16] {
-    let event = event(given);
-    let cycle = if given[9] == 1 { 1 } else { 0 };
-    let written = events::lomvigast_event_bytes(&event, cycle);
-    let mut v = [0u64; 16];
-    if written.high < 0x100 {
-        v[0] = written.high;
-        return v;
+impl fmt::Display for Event {
+    fn fmt<W: fmt::Write>(&self, f: &mut fmt::Formatter<W>) -> fmt::Result {
+        write!(f, "{:x} {:x}", self.trb_type & 0xff, self.pointer)?;
+        write!(f, " {:x} {:x}", self.length, self.code)?;
+        write!(f, " {:x} {:x}", self.event_data, self.endpoint)?;
+        write!(f, " {:x} {:x}", self.slot, self.port)
     }
-    v[13] = swapped(written.low);
-    v[14] = swapped(written.high);
-    v
+}
+
+pub(crate) fn write_event(given: &Numbers, text: &mut impl Write) -> io::Result<()> {
+    let event = Event::from(*given);
+    let cycle = given[9];
+    let written = events::lomvigast_event_bytes(&event.words(), u64::from(cycle == 1));
+    write!(text, " {event} {:x}:", cycle & 1)?;
+    if written.high < 0x100 {
+        return write!(text, " {:x} {}", written.high, Trb::default());
+    }
+    let trb = Trb {
+        low: written.low,
+        high: written.high,
+    };
+    write!(text, " 0 {trb}")
 }
