@@ -6,12 +6,12 @@
 #![tactic(auto)]
 
 ghost use Rattle.std.specs.Prelude.{◌≡◌, ◌-◌, ◌<◌};
-ghost use Rattle.guest.specs.Memory.{window};
-ghost use Rattle.linked_ring.specs.Chase.{ring_at, advanced, followed, unnoted, noted, fresh_of, ended, chase_from, chase};
+ghost use Rattle.linked_ring.specs.Chase.{ring_at, advanced, followed, unnoted, noted, fresh_of, chase_from, chase};
 
-use guest::refusal;
+use guest::Window;
+use guest::refusal::Refusal;
 use trb::RawTrbBuffer;
-use trb::link::{LinkOrOther, LinkTrb};
+use trb::link::LinkTrb;
 
 #[derive(Clone, Copy)]
 pub struct LinkedRing {
@@ -27,20 +27,24 @@ pub struct Notes {
     pub completion: bool,
 }
 
+// A TRB, and where it stands.
 #[derive(Clone, Copy)]
-pub enum Answer {
-    Trb,
-    NothingNew,
-    TooManyLinks,
-    Refused(u8),
+pub struct RawTrb {
+    pub address: u64,
+    pub buffer: RawTrbBuffer,
 }
 
-// The answer, the TRB with its address where there is one, the ring as moved, and the notes.
+#[derive(Clone, Copy)]
+pub enum Found {
+    Trb(RawTrb),
+    NothingNew,
+    TooManyLinks,
+}
+
+// What was found, the ring as moved, and the notes.
 #[derive(Clone, Copy)]
 pub struct Chase {
-    pub answer: Answer,
-    pub trb: RawTrbBuffer,
-    pub address: u64,
+    pub found: Found,
     pub ring: LinkedRing,
     pub notes: Notes,
 }
@@ -68,19 +72,6 @@ impl Notes {
     }
 }
 
-// A chase that ended with no TRB.
-fn end(answer: Answer, ring: LinkedRing, notes: Notes) -> Chase
-    ensures { result ≡ ended answer ring notes }
-{
-    Chase {
-        answer,
-        trb: [0u8; 16],
-        address: 0,
-        ring,
-        notes,
-    }
-}
-
 impl LinkedRing {
     pub const TRB_SIZE: u64 = 16;
 
@@ -105,7 +96,7 @@ impl LinkedRing {
     pub fn set_place(self, place: u64, cycle: bool) -> Self
         ensures { result ≡ ring_at place cycle }
     {
-        LinkedRing { place, cycle }
+        LinkedRing::new(place, cycle)
     }
 
     // The ring as a Link moves it.
@@ -124,44 +115,40 @@ impl LinkedRing {
         trb::cycle_bit(trb) == self.cycle
     }
 
-    // The chase from here on, of a ring that stood at `entry` when it began and has come here over so many links.
-    fn go_on(self, start: u64, mem: &[u8], entry: LinkedRing, noted: Notes) -> Chase
-        ensures { result ≡ chase_from (window start mem.now) entry (256 - noted.links) self noted }
+    // The chase from here on, of a ring that has come here over so many links.
+    fn go_on(self, mem: &Window<'_>, noted: Notes) -> Result<Chase, Refusal>
+        ensures { result ≡ chase_from mem.now (256 - noted.links) self noted }
     {
         let mut ring = self;
         let mut notes = noted;
-        loop {
-            let address = ring.place;
-            let read = guest::read_trb(start, mem, address);
-            if read.refusal != 0 {
-                return end(Answer::Refused(refusal::OUTSIDE), entry, Notes::none());
+        // No `for`: the notes count the links, and after the last that is followed there is one look more.
+        let found = loop {
+            let buffer = mem.read_trb(ring.place)?;
+            if !ring.fresh(buffer) {
+                break Found::NothingNew;
             }
-            let trb = read.trb;
-            if !ring.fresh(trb) {
-                return end(Answer::NothingNew, ring, notes);
-            }
-            let LinkOrOther::Link(link) = LinkTrb::parse(trb) else {
-                return Chase {
-                    answer: Answer::Trb,
-                    trb,
-                    address,
-                    ring,
-                    notes,
-                };
+            let Some(link) = LinkTrb::parse(buffer) else {
+                break Found::Trb(RawTrb {
+                    address: ring.place,
+                    buffer,
+                });
             };
             if LinkedRing::MOST_LINKS <= notes.links {
-                return end(Answer::TooManyLinks, ring, notes);
+                break Found::TooManyLinks;
             }
             ring = ring.follow(link);
             notes = notes.with(link);
-        }
+        };
+        Ok(Chase { found, ring, notes })
     }
 
-    // The next TRB that is fresh and no Link, with the Links on the way followed.
-    pub fn next_trb(self, start: u64, mem: &[u8]) -> Chase
-        ensures { result ≡ chase (window start mem.now) self }
+    // The next TRB that is fresh and no Link, with the Links on the way followed. A refusal hands out no ring, so the caller's is the
+    // one that entered.
+    #[tactic(auto, unfolding(crate::specs::Chase::chase))]
+    pub fn next_trb(self, mem: &Window<'_>) -> Result<Chase, Refusal>
+        ensures { result ≡ chase mem.now self }
     {
-        self.go_on(start, mem, self, Notes::none())
+        self.go_on(mem, Notes::none())
     }
 }
 
@@ -170,11 +157,11 @@ impl LinkedRing {
 pub fn advance_in_place(ring: &mut LinkedRing)
     ensures { ring.new ≡ advanced ring.old }
 {
-    *ring = LinkedRing::advance(*ring);
+    *ring = ring.advance();
 }
 
 pub fn set_place_in_place(ring: &mut LinkedRing, place: u64, cycle: bool)
     ensures { ring.new ≡ ring_at place cycle }
 {
-    *ring = LinkedRing::set_place(*ring, place, cycle);
+    *ring = ring.set_place(place, cycle);
 }
