@@ -1,13 +1,12 @@
 -- What the chase's answers mean, at any memory: how many links were followed, where they lead, and what stands there; and the marked
 -- cases L1 and L2. Assumes nothing.
-use Rattle.std.proofs.Common.{◌≡◌, ℕ, zero, suc, ◌+◌, ◌<◌, ◌≤◌, Bool, true, false, cond, not, eqb, ◌↔◌, List, [], ◌∷◌, ◌++◌, Option, Some, None, sym, refl, ap, ◌∙◌, subst, ap₂, true≢false, add-one, arith, length-append, below_none, below_more}
+use Rattle.std.proofs.Common.{◌≡◌, ℕ, zero, suc, ◌+◌, ◌<◌, ◌≤◌, Bool, true, false, cond, not, ◌||◌, eqb, ◌↔◌, List, [], ◌∷◌, ◌++◌, Option, Some, None, sym, refl, ap, ◌∙◌, subst, ap₂, true≢false, add-one, arith, length-append, below_none, below_more}
 use mathlib.Core.Bool.{beq, or_self}
 use native.Mathlib.Decide.{dec_le}
 use Rattle.std.proofs.lemmas.Bool.{false_from_ne_true}
 use Rattle.std.proofs.lemmas.Bool.Decides.{not_from_Decides}
 use Rattle.std.proofs.lemmas.List.Recursion.{or_push}
 use Rattle.std.specs.Prelude.{Result, Ok, Err}
-use Rattle.std.specs.Bool.{Decides}
 use Rattle.std.specs.Cmp.{booleans_Decides}
 use Rattle.std.specs.List.{list_any}
 use Rattle.guest.specs.declared.refusal.Refusal.{Refusal}
@@ -39,7 +38,20 @@ pub record Fresh (m : Memory) (r : LinkedRing) (link : Option LinkTrb) : Type 0 
   pub fresh : IsFresh m r
   pub is : link_of (trb_at m r.place) ≡ link
 
--- the ring that the code follows a Link to
+-- what the code tests is that
+beq_yes : (a b : Bool) → a ≡ b → beq a b ≡ true
+beq_yes a b = (booleans_Decides a b).1
+
+beq_no : (a b : Bool) → (a ≡ b → ⊥) → beq a b ≡ false
+beq_no a b n = false_from_ne_true (beq a b) (λ t. n ((booleans_Decides a b).0 t))
+
+yes_beq : (a b : Bool) → beq a b ≡ true → a ≡ b
+yes_beq a b = (booleans_Decides a b).0
+
+no_beq : (a b : Bool) → beq a b ≡ false → a ≡ b → ⊥
+no_beq a b = not_from_Decides (beq a b) (booleans_Decides a b)
+
+-- and the ring that the code follows a Link to
 hopped : (r : LinkedRing) (l : LinkTrb) → followed r l ≡ hop (Some l) r
 hopped r l = go r.cycle l.toggle_cycle refl refl
   where
@@ -51,9 +63,6 @@ hopped r l = go r.cycle l.toggle_cycle refl refl
 
 -- the four ways that a look goes
 module _ (m : Memory) (r : LinkedRing) (n : Notes) (k : LinkTrb → Result Chase Refusal) where
-  tests_fresh : Decides (fresh_of r.cycle (trb_at m r.place)) (IsFresh m r)
-  tests_fresh = booleans_Decides (cycle_of (trb_at m r.place)) r.cycle
-
   look_cases : (P : Result Chase Refusal → Type 0)
       → (Outside m r → P (Err (by_number outside)))
       → (Stale m r → P (ended Found.NothingNew r n))
@@ -65,15 +74,15 @@ module _ (m : Memory) (r : LinkedRing) (n : Notes) (k : LinkTrb → Result Chase
       go : (x y : Bool) (z : Option LinkTrb) → inside m r.place 16 ≡ x → fresh_of r.cycle (trb_at m r.place) ≡ y → link_of (trb_at m r.place) ≡ z
           → P (seen x y z (trb_at m r.place) r n k)
       go false y z p q s = out (record { outside = p })
-      go true false z p q s = stale (record { within = p; stale = not_from_Decides _ tests_fresh q })
-      go true true None p q s = other (record { within = p; fresh = tests_fresh.0 q; is = s })
-      go true true (Some l) p q s = link l (record { within = p; fresh = tests_fresh.0 q; is = s })
+      go true false z p q s = stale (record { within = p; stale = no_beq _ _ q })
+      go true true None p q s = other (record { within = p; fresh = yes_beq _ _ q; is = s })
+      go true true (Some l) p q s = link l (record { within = p; fresh = yes_beq _ _ q; is = s })
 
   look_link : (l : LinkTrb) → Fresh m r (Some l) → look m r n k ≡ k l
-  look_link l s = rw (s.within, tests_fresh.1 s.fresh, s.is)
+  look_link l s = rw (s.within, beq_yes (cycle_of (trb_at m r.place)) r.cycle s.fresh, s.is)
 
   look_stale : Stale m r → look m r n k ≡ ended Found.NothingNew r n
-  look_stale s = rw (s.within, false_from_ne_true _ (λ t. s.stale (tests_fresh.0 t)))
+  look_stale s = rw (s.within, beq_no (cycle_of (trb_at m r.place)) r.cycle s.stale)
 
 -- a link that is followed
 again : (m : Memory) (left : ℕ) (r : LinkedRing) (n : Notes) (l : LinkTrb) {r' : LinkedRing} {n' : Notes} → followed r l ≡ r' → noted n l ≡ n'
@@ -84,12 +93,15 @@ again m left r n l p q = ap₂ (chase_from m left) p q
 -- ---- hops
 
 -- one more link in the list is one more that is noted
+any_more : (had : LinkTrb → Bool) (ls : List LinkTrb) (l : LinkTrb) → list_any had (ls ++ (l ∷ [])) ≡ list_any had ls || had l
+any_more had = or_push (list_any had) had refl (λ k ks. refl)
+
 noted_more : (ls : List LinkTrb) (l : LinkTrb) → noted (notes_over ls) l ≡ notes_over (ls ++ (l ∷ []))
 noted_more ls l =
     rw (
       length-append ls (l ∷ []),
-      or_push (list_any (λ k. k.pointer_bits_cleared)) (λ k. k.pointer_bits_cleared) refl (λ x xs. refl) ls l,
-      or_push (list_any (λ k. k.interrupt_on_completion)) (λ k. k.interrupt_on_completion) refl (λ x xs. refl) ls l,
+      any_more (λ k. k.pointer_bits_cleared) ls l,
+      any_more (λ k. k.interrupt_on_completion) ls l,
     )
 
 -- k hops from e are by fresh Links alone

@@ -93,6 +93,7 @@ impl LinkedRing {
         }
     }
 
+    // Promised beside `new`, with the same contract: there a ring begins, here one moves. Both take the parts that a ring is made of.
     pub fn set_place(self, place: u64, cycle: bool) -> Self
         ensures { result ≡ ring_at place cycle }
     {
@@ -152,7 +153,7 @@ impl LinkedRing {
     }
 }
 
-// The same two on a ring that is lent to be changed in place.
+// The same two on a ring that is lent to be changed in place, which document 01 asks for beside them.
 
 pub fn advance_in_place(ring: &mut LinkedRing)
     ensures { ring.new ≡ advanced ring.old }
