@@ -23,7 +23,7 @@ use Rattle.trb.specs.declared.event.EventTrb.{EventTrb}
 use Rattle.trb.proofs.OneEncoding.{reads_back, cycle_back, bytes_length}
 use Rattle.event_ring.specs.Ring.{next_state, full, refused_at, moved_to, started, configure_tests, configured, added, added_memory, reader_configured}
 use Rattle.event_ring.specs.declared.EventRing.{EventRing}
-use Rattle.event_ring.specs.declared.Moved.{Moved}
+use Rattle.event_ring.specs.Answers.{Moved}
 use Rattle.delivery.specs.Plain.{Op, adds, takes, reports, changes, Turn, answers, final, Plain, nth, fits, list_machine}
 use Rattle.delivery.specs.World.{Reader, World, ring_machine, standard_reader, port_reader}
 use Rattle.delivery.specs.Demand3.{Setup, base, slots, Apart, Premises, Outside, Allowed, AllAllowed, empty_list, Delivers, Demand3, Statement}

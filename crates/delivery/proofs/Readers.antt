@@ -12,7 +12,7 @@ use Rattle.event_ring.specs.Consumer.{Consumer, dequeue, event?, onward}
 use Rattle.event_ring.specs.declared.Entry.{Entry}
 use Rattle.event_ring.specs.declared.EventRing.{EventRing}
 use Rattle.event_ring.specs.declared.EventReader.{EventReader}
-use Rattle.event_ring.specs.declared.Taken.{Taken}
+use Rattle.event_ring.specs.Answers.{TakeMoved}
 use Rattle.event_ring.proofs.Laws.{limits}
 use Rattle.event_ring.proofs.Standard.{StandsAt, steps}
 use Rattle.delivery.specs.Demand3.{Setup, Premises}
@@ -75,8 +75,8 @@ module _ (s : Setup) (W : Premises s) where
         starts = port_starts;
         takes = λ m K r p e h.
             let t = port_take m K r p e true (port_fresh m r p e true (fresh_yes _ _ h)) in
-            (reader_at (walk s (suc p)), ap (λ (x : Taken). took_as x x.answer) t, ap (walk s) (sym (add-one p)));
-        finds_none = λ m K r p e h. ap (λ (x : Taken). took_as x x.answer) (port_take m K r p e false (port_fresh m r p e false (fresh_no _ _ h)));
+            (reader_at (walk s (suc p)), ap (λ (x : TakeMoved). took_as x x.answer) t, ap (walk s) (sym (add-one p)));
+        finds_none = λ m K r p e h. ap (λ (x : TakeMoved). took_as x x.answer) (port_take m K r p e false (port_fresh m r p e false (fresh_no _ _ h)));
         placed = λ m r p e. ap (λ (x : EventRing). x.place) e;
         cycled = λ m r p e. ap (λ (x : EventRing). x.cycle) e;
         stays = λ m m' K K' r p e. e;

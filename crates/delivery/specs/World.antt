@@ -1,15 +1,15 @@
 -- The ring in guest memory with a reader, as a machine: the ring's side is what event_ring's contracts cite.
-use Rattle.std.specs.Prelude.{ℕ, Bool, cond, List, eqb}
+use Rattle.std.specs.Prelude.{ℕ, Bool, cond, List, eqb, Result, Ok, Err}
 use Rattle.guest.specs.Memory.{Memory, write}
 use Rattle.trb.specs.Events.{event_of}
-use Rattle.trb.specs.declared.event.EventVariant.{EventVariant}
+use Rattle.trb.specs.declared.event.EventTrb.{EventTrb}
+use Rattle.trb.specs.declared.Unrecognized.{Unrecognized}
+use Rattle.event_ring.specs.Answers.{Take, TakeMoved}
 use Rattle.event_ring.specs.Ring.{added, added_memory, take}
 use Rattle.event_ring.specs.Consumer as standard
 use Rattle.event_ring.specs.Consumer.{Consumer, Consumed}
 use Rattle.event_ring.specs.declared.EventRing.{EventRing}
 use Rattle.event_ring.specs.declared.EventReader.{EventReader}
-use Rattle.event_ring.specs.declared.Take.{Take}
-use Rattle.event_ring.specs.declared.Taken.{Taken}
 use Rattle.delivery.specs.Plain.{Op, adds, takes, reports, changes, Answer, accepted, refused, gives, nothing, garbled, done, Turn, turn}
 
 -- ---- a reader: its state at the start, what it finds, and its place and cycle
@@ -35,12 +35,12 @@ pub record World (S : Type 0) : Type 0 where
   pub report : ℕ
 
 -- raw bytes that were taken, decoded
-abbrev pub decoded : EventVariant → Answer
-decoded (EventVariant.Event e) = gives e
-decoded (EventVariant.Unrecognized x) = garbled
+abbrev pub decoded : Result EventTrb Unrecognized → Answer
+decoded (Ok e) = gives e
+decoded (Err x) = garbled
 
 abbrev pub taking : {S : Type 0} → World S → Found S → Turn (World S)
-taking w (found trb r) = turn (decoded (event_of trb).variant) (record { mem = w.mem; ring = w.ring; reader = r; report = w.report })
+taking w (found trb r) = turn (decoded (event_of trb)) (record { mem = w.mem; ring = w.ring; reader = r; report = w.report })
 taking w (none r) = turn nothing (record { mem = w.mem; ring = w.ring; reader = r; report = w.report })
 taking w (refuses n r) = turn (refused n) (record { mem = w.mem; ring = w.ring; reader = r; report = w.report })
 
@@ -73,7 +73,7 @@ standard_reader table entries =
     }
 
 -- the port's, as it was configured
-abbrev pub took_as : Taken → Take → Found EventReader
+abbrev pub took_as : TakeMoved → Take → Found EventReader
 took_as t Take.Event = found t.trb t.reader
 took_as t Take.Nothing = none t.reader
 took_as t (Take.Refused n) = refuses n t.reader

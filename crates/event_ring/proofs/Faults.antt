@@ -15,13 +15,11 @@ use Rattle.trb.specs.Events.{valid, event_bytes}
 use Rattle.trb.proofs.OneEncoding.{bytes_length}
 use Rattle.trb.specs.declared.event.EventTrb.{EventTrb}
 use Rattle.event_ring.specs.Ring.{entry_at, good_entry, count_ok, ok_state, last, next_index, next_state, entry_tests, next_tests, configure_tests, started, configured, refused_at, moved_to, full, add_tests, added, added_memory, empty, reader_configured, fresh_of, take_tests, take_refused, take, number_of}
+use Rattle.event_ring.specs.Answers.{Moved, Take, TakeMoved}
 use Rattle.event_ring.specs.Faults.{Allowed, Counted, Limits, Fits, Last, Full, Fresh, configure_faults, add_faults, take_faults, refused_with, Writes}
 use Rattle.event_ring.specs.Faults as paper
 use Rattle.event_ring.specs.declared.EventRing.{EventRing}
 use Rattle.event_ring.specs.declared.EventReader.{EventReader}
-use Rattle.event_ring.specs.declared.Moved.{Moved}
-use Rattle.event_ring.specs.declared.Take.{Take}
-use Rattle.event_ring.specs.declared.Taken.{Taken}
 use Rattle.event_ring.proofs.Laws.{add_numbered}
 use Rattle.event_ring.proofs.Standard.{given, given_number}
 
@@ -185,20 +183,20 @@ pub take_refused_lem : (m : Memory) (r : EventReader) → FirstOf (take_faults m
 unfolding take judge
 take_refused_lem m r =
     subst (FirstOf (take_faults m r.state))
-    (sym (judge_refusal (λ (x : Taken). number_of x.answer) (take_tests m r.state) (take_refused r) (given m r (fresh_of m r.state)) (λ n. refl) (given_number m r (fresh_of m r.state))) ∙ number_read (take m r).answer)
+    (sym (judge_refusal (λ (x : TakeMoved). number_of x.answer) (take_tests m r.state) (take_refused r) (given m r (fresh_of m r.state)) (λ n. refl) (given_number m r (fresh_of m r.state))) ∙ number_read (take m r).answer)
     (asks (ok_state r.state) 4 (says_limits r.state)
     (λ l. asks (inside m r.state.place 16) 1 (says_inside m r.state.place 16)
     (λ _. enter_refused m r.state l)))
 
 -- beside a refusal, and beside "none", there is nothing to show, and the reader is as it was
-pub record Nothing (r : EventReader) (t : Taken) : Type 0 where
+pub record Nothing (r : EventReader) (t : TakeMoved) : Type 0 where
   pub trb : t.trb ≡ replicate 16 0
   pub reader : t.reader ≡ r
 
 pub take_shows_nothing : (m : Memory) (r : EventReader) → ((take m r).answer ≡ Take.Event → ⊥) → Nothing r (take m r)
 unfolding take
 take_shows_nothing m r =
-    judge_by (λ (t : Taken). (t.answer ≡ Take.Event → ⊥) → Nothing r t) (take_tests m r.state) (take_refused r) (given m r (fresh_of m r.state))
+    judge_by (λ (t : TakeMoved). (t.answer ≡ Take.Event → ⊥) → Nothing r t) (take_tests m r.state) (take_refused r) (given m r (fresh_of m r.state))
     (λ n h. record { trb = refl; reader = refl })
     (λ p. go (fresh_of m r.state))
   where

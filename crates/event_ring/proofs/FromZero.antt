@@ -12,12 +12,11 @@ use Rattle.trb.specs.Trb.{cycle_of}
 use Rattle.trb.specs.Events.{event_tests, event_bytes}
 use Rattle.trb.specs.declared.event.EventTrb.{EventTrb}
 use Rattle.event_ring.specs.Ring.{entry_at, good_entry, count_ok, ok_state, last, next_index, entered, next_state, next_tests, refused_at, moved_to, configured, add_tests, added, added_memory, of_reader, reader_configured, fresh_of, take_tests, take_refused, nothing_at, taken_at, take}
+use Rattle.event_ring.specs.Answers.{Moved, TakeMoved}
 use Rattle.event_ring.specs.Consumer.{Consumer, onward, Consumed, event, none, consume}
 use Rattle.event_ring.specs.declared.Entry.{Entry}
 use Rattle.event_ring.specs.declared.EventRing.{EventRing}
 use Rattle.event_ring.specs.declared.EventReader.{EventReader}
-use Rattle.event_ring.specs.declared.Moved.{Moved}
-use Rattle.event_ring.specs.declared.Taken.{Taken}
 
 -- ---- document 01's ring
 
@@ -72,7 +71,7 @@ added_memory₀ m s e report = judge (add_tests₀ m s e report) (λ n. m) (writ
 abbrev pub fresh₀ : List ℕ → EventRing → Bool
 fresh₀ m s = beq (cycle_of (part₀ m s.place 16)) s.cycle
 
-abbrev pub take₀ : List ℕ → EventReader → Taken
+abbrev pub take₀ : List ℕ → EventReader → TakeMoved
 take₀ m r =
     let s = r.state in
     judge ((4, ok_state s) ∷ (1, inside₀ m s.place 16) ∷ cond (fresh₀ m s) (next_tests₀ m s) []) (take_refused r)
@@ -175,7 +174,7 @@ module _ (l : List ℕ) where
     pub take_zero : (r : EventReader) → take (window 0 l) r ≡ take₀ l r
     unfolding take
     take_zero r =
-        judge_alike (λ (t : Taken). t)
+        judge_alike (λ (t : TakeMoved). t)
         ((4, ok_state s) ∷ (1, inside₀ l s.place 16) ∷ cond (fresh₀ l s) (next_tests₀ l s) []) (take_tests (window 0 l) s) (take_refused r) (take_refused r)
         (cond (fresh₀ l s) (taken_at (part₀ l s.place 16) (next_state₀ l s)) (nothing_at r))
         (cond (fresh_of (window 0 l) s) (taken_at (trb_at (window 0 l) s.place) (next_state (window 0 l) s)) (nothing_at r))

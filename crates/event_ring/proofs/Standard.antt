@@ -10,12 +10,11 @@ use Rattle.guest.proofs.Judge.{Passes, Numbered, answer_passes, answer_given}
 use Rattle.guest.proofs.Memory.{inside_within}
 use Rattle.trb.specs.Trb.{cycle_of}
 use Rattle.event_ring.specs.Ring.{entry_of, entry_at, good_entry, ok_state, last, next_index, next_entry, entered, along, next_state, next_tests, fresh_of, take_tests, take_refused, taken_at, nothing_at, take, number_of, values_of, started}
+use Rattle.event_ring.specs.Answers.{Take, TakeMoved}
 use Rattle.event_ring.specs.Consumer.{Consumer, first, dequeue, event?, onward, Consumed, event, none, consume}
 use Rattle.event_ring.specs.declared.Entry.{Entry}
 use Rattle.event_ring.specs.declared.EventRing.{EventRing}
 use Rattle.event_ring.specs.declared.EventReader.{EventReader}
-use Rattle.event_ring.specs.declared.Take.{Take}
-use Rattle.event_ring.specs.declared.Taken.{Taken}
 use Rattle.event_ring.proofs.Laws.{Limits, limits, next_numbered}
 
 -- the reader's state stands where the consumer does: the same slot, as many slots left as the segment has from there on, none of them past
@@ -60,7 +59,7 @@ starts m table entries good =
     }
 
 -- a take agrees with what the consumer does
-abbrev pub Agrees : Memory → EventReader → Taken → Consumed → Type 0
+abbrev pub Agrees : Memory → EventReader → TakeMoved → Consumed → Type 0
 Agrees m r t (event trb k) = (t.answer ≡ Take.Event) × (t.trb ≡ trb) × StandsAt m t.reader.state k × SameTable r.state t.reader.state
 Agrees m r t none = (t.answer ≡ Take.Nothing) × (t.trb ≡ replicate 16 0) × (t.reader ≡ r)
 
@@ -135,7 +134,7 @@ module _ (m : Memory) (s : EventRing) (k : Consumer) (ok : Limits s) (good : Pas
 
 module _ (m : Memory) (r : EventReader) where
   -- what a take gives where it refuses nothing
-  abbrev pub given : Bool → Taken
+  abbrev pub given : Bool → TakeMoved
   given fresh = cond fresh (taken_at (trb_at m r.state.place) (next_state m r.state)) (nothing_at r)
 
   pub given_number : (fresh : Bool) → number_of (given fresh).answer ≡ 0
@@ -151,11 +150,11 @@ module _ (m : Memory) (r : EventReader) where
 
   pub take_passes : number_of (take m r).answer ≡ 0 → Passes (take_tests m r.state)
   unfolding take
-  take_passes = answer_passes (λ (t : Taken). number_of t.answer) (take_tests m r.state) take_numbered (take_refused r) (given (fresh_of m r.state)) (λ n. refl) (given_number (fresh_of m r.state)) (take m r) refl
+  take_passes = answer_passes (λ (t : TakeMoved). number_of t.answer) (take_tests m r.state) take_numbered (take_refused r) (given (fresh_of m r.state)) (λ n. refl) (given_number (fresh_of m r.state)) (take m r) refl
 
   pub take_gives : number_of (take m r).answer ≡ 0 → take m r ≡ given (fresh_of m r.state)
   unfolding take
-  take_gives = answer_given (λ (t : Taken). number_of t.answer) (take_tests m r.state) take_numbered (take_refused r) (given (fresh_of m r.state)) (λ n. refl) (given_number (fresh_of m r.state)) (take m r) refl
+  take_gives = answer_given (λ (t : TakeMoved). number_of t.answer) (take_tests m r.state) take_numbered (take_refused r) (given (fresh_of m r.state)) (λ n. refl) (given_number (fresh_of m r.state)) (take m r) refl
 
 -- the port's reader, standing where a consumer does and refusing nothing, does what the consumer does, and stands where the consumer then
 -- stands

@@ -6,10 +6,9 @@ use Rattle.guest.proofs.Judge.{answer_stops}
 use Rattle.trb.specs.Events.{event_bytes}
 use Rattle.trb.specs.declared.event.EventTrb.{EventTrb}
 use Rattle.event_ring.specs.Ring.{empty, configured, add_tests, next_state, refused_at, moved_to, added, added_memory, reader_at, reader_configured, take, take_tests, take_refused, fresh_of, number_of}
+use Rattle.event_ring.specs.Answers.{Moved, TakeMoved}
 use Rattle.event_ring.specs.declared.EventRing.{EventRing}
 use Rattle.event_ring.specs.declared.EventReader.{EventReader}
-use Rattle.event_ring.specs.declared.Moved.{Moved}
-use Rattle.event_ring.specs.declared.Taken.{Taken}
 use Rattle.event_ring.proofs.Laws.{configured_stops, add_numbered}
 use Rattle.event_ring.proofs.Standard.{given, given_number, take_numbered}
 
@@ -65,8 +64,8 @@ module _ (m : Memory) (s : EventRing) (e : EventTrb) (report : ℕ) (h : (added 
 take_stops : (m : Memory) (r : EventReader) → (number_of (take m r).answer ≡ 0 → ⊥) → (take m r).reader ≡ r
 unfolding take
 take_stops m r h =
-    ap (λ (x : Taken). x.reader)
-    (answer_stops (λ (x : Taken). number_of x.answer) (take_tests m r.state) (take_numbered m r) (take_refused r) (given m r (fresh_of m r.state)) (λ n. refl) (given_number m r (fresh_of m r.state)) (take m r) refl h (take_refused r) (given m r (fresh_of m r.state)))
+    ap (λ (x : TakeMoved). x.reader)
+    (answer_stops (λ (x : TakeMoved). number_of x.answer) (take_tests m r.state) (take_numbered m r) (take_refused r) (given m r (fresh_of m r.state)) (λ n. refl) (given_number m r (fresh_of m r.state)) (take m r) refl h (take_refused r) (given m r (fresh_of m r.state)))
 
 pub refusal_changes_nothing : (w : State) (o : Op) → (answers w o ≡ 0 → ⊥) → leaves w o ≡ w
 unfolding reader_configured

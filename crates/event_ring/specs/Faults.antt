@@ -6,7 +6,7 @@ use Rattle.guest.specs.Memory.{Memory, byte, le, trb_at}
 use Rattle.trb.specs.Trb.{cycle_of}
 use Rattle.trb.specs.declared.event.EventTrb.{EventTrb}
 use Rattle.event_ring.specs.declared.EventRing.{EventRing}
-use Rattle.event_ring.specs.declared.Take.{Take}
+use Rattle.event_ring.specs.Answers.{Take}
 
 -- ---- what document 01 asks
 

@@ -2,10 +2,9 @@
 use Rattle.std.specs.Prelude.{◌≡◌, ℕ, ◌+◌, true}
 use Rattle.guest.specs.Memory.{Memory, inside, trb_at}
 use Rattle.event_ring.specs.Ring.{entry_at, reader_at}
+use Rattle.event_ring.specs.Answers.{Moved, TakeMoved}
 use Rattle.event_ring.specs.declared.EventRing.{EventRing}
-use Rattle.event_ring.specs.declared.Moved.{Moved}
 use Rattle.event_ring.specs.declared.EventReader.{EventReader}
-use Rattle.event_ring.specs.declared.Taken.{Taken}
 
 module _ (d : ℕ) where
   -- ---- states and answers: table and place are addresses
@@ -28,7 +27,7 @@ module _ (d : ℕ) where
   abbrev pub reader_up : EventReader → EventReader
   reader_up r = reader_at (ring_up r.state)
 
-  abbrev pub taken_up : Taken → Taken
+  abbrev pub taken_up : TakeMoved → TakeMoved
   taken_up t = record { answer = t.answer; trb = t.trb; reader = reader_up t.reader }
 
   -- ---- bytes: an entry's base is an address, and a slot has none that the ring reads. What is outside is not asked

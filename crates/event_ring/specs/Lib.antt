@@ -1,3 +1,4 @@
+pub mod Answers
 pub mod Ring
 pub mod Consumer
 pub mod Faults

@@ -1,26 +1,30 @@
 -- The event ring, xHCI 4.9.4 and 6.5, with document 01's limits and refusals: a step along the segments, and what configure, add and
 -- take answer. The refusals of each are a list of numbered tests in their order.
-use Rattle.std.specs.Prelude.{ℕ, ◌+◌, ◌-◌, ◌*◌, ◌%◌, ◌^◌, Bool, true, false, cond, not, ◌&&◌, List, [], ◌∷◌, ◌++◌, replicate, ◌==◌, nat_le, nat_lt}
+use Rattle.std.specs.Prelude.{ℕ, ◌+◌, ◌-◌, ◌*◌, ◌%◌, ◌^◌, Bool, true, false, cond, not, ◌&&◌, List, [], ◌∷◌, ◌++◌, replicate, ◌==◌, nat_le, nat_lt, Result, Ok, Err}
 use Rattle.std.specs.Bool.{beq}
 use Rattle.guest.specs.Refusals as refusal
+use Rattle.guest.specs.Refusals.{by_number}
+use Rattle.guest.specs.declared.refusal.Refusal.{Refusal}
 use Rattle.guest.specs.Judge.{Tests, judge}
 use Rattle.guest.specs.Memory.{Memory, inside, le, trb_at, write}
+use Rattle.guest.specs.Fields.{dword, low_of}
 use Rattle.trb.specs.Trb.{cycle_of}
 use Rattle.trb.specs.Events.{event_tests, event_bytes}
 use Rattle.trb.specs.declared.event.EventTrb.{EventTrb}
 use Rattle.event_ring.specs.declared.Entry.{Entry}
 use Rattle.event_ring.specs.declared.EventRing.{EventRing}
-use Rattle.event_ring.specs.declared.Moved.{Moved}
 use Rattle.event_ring.specs.declared.EventReader.{EventReader}
-use Rattle.event_ring.specs.declared.ReaderMoved.{ReaderMoved}
-use Rattle.event_ring.specs.declared.Take.{Take}
-use Rattle.event_ring.specs.declared.Taken.{Taken}
+use Rattle.event_ring.specs.Answers.{Moved, ReaderMoved, Take, TakeMoved}
 
 -- ---- the segment table, 6.5
 
 -- the entry at an address: base in dwords 0 and 1, size in dword 2, which document 01 reads whole
 unfoldable pub entry_at : Memory → ℕ → Entry
 entry_at m a = record { base = le m a 8; size = le m (a + 8) 4 }
+
+-- that of sixteen bytes
+abbrev pub entry_of_bytes : List ℕ → Entry
+entry_of_bytes trb = record { base = low_of trb; size = dword trb 2 }
 
 -- entry j of a table
 abbrev pub entry_of : Memory → ℕ → ℕ → Entry
@@ -29,6 +33,13 @@ entry_of m table j = entry_at m (table + 16 * j)
 -- refusal 5
 unfoldable pub good_entry : Memory → Entry → Bool
 good_entry m e = e.base % 64 == 0 && nat_le 1 e.size && nat_le e.size 4096 && inside m e.base (16 * e.size)
+
+-- an entry as it is read: 1, then 5
+abbrev pub read_tests : Memory → ℕ → Tests
+read_tests m a = (refusal.outside, inside m a 16) ∷ (refusal.segment, good_entry m (entry_at m a)) ∷ []
+
+abbrev pub entry_read : Memory → ℕ → Result Entry Refusal
+entry_read m a = judge (read_tests m a) (λ n. Err (by_number n)) (Ok (entry_at m a))
 
 -- refusal 3
 abbrev pub count_ok : ℕ → Bool
@@ -183,16 +194,16 @@ fresh_of m s = beq (cycle_of (trb_at m s.place)) s.cycle
 abbrev pub take_tests : Memory → EventRing → Tests
 take_tests m s = (refusal.state, ok_state s) ∷ (refusal.outside, inside m s.place 16) ∷ cond (fresh_of m s) (next_tests m s) []
 
-abbrev pub take_refused : EventReader → ℕ → Taken
+abbrev pub take_refused : EventReader → ℕ → TakeMoved
 take_refused r n = record { answer = Take.Refused n; trb = replicate 16 0; reader = r }
 
-abbrev pub nothing_at : EventReader → Taken
+abbrev pub nothing_at : EventReader → TakeMoved
 nothing_at r = record { answer = Take.Nothing; trb = replicate 16 0; reader = r }
 
-abbrev pub taken_at : List ℕ → EventRing → Taken
+abbrev pub taken_at : List ℕ → EventRing → TakeMoved
 taken_at trb s = record { answer = Take.Event; trb = trb; reader = reader_at s }
 
-unfoldable pub take : Memory → EventReader → Taken
+unfoldable pub take : Memory → EventReader → TakeMoved
 take m r =
     judge (take_tests m r.state) (take_refused r)
     (cond (fresh_of m r.state) (taken_at (trb_at m r.state.place) (next_state m r.state)) (nothing_at r))

@@ -6,10 +6,12 @@
 #![tactic(auto)]
 
 ghost use Rattle.std.specs.Prelude.{◌≡◌, ◌<◌, ◌≤◌, true};
-ghost use Rattle.guest.specs.Memory.{window, inside};
-ghost use Rattle.event_ring.specs.Ring.{empty, entry_at, good_entry, count_ok, ok_state, next_index, entered, along, refused_at, enter_next, next, configured, add_step, added, added_memory, reader_at, reader_configured, take_refused, take};
+ghost use Rattle.guest.specs.Memory.{window};
+ghost use Rattle.event_ring.specs.Answers.{moved, reader_moved, taken_as};
+ghost use Rattle.event_ring.specs.Ring.{entry_of_bytes, good_entry, entry_read, empty, count_ok, ok_state, next_index, entered, along, enter_next, next, configured, add_step, added, added_memory, reader_at, reader_configured, take};
 
-use guest::refusal;
+use guest::refusal::Refusal;
+use guest::{Dwords, Window};
 use trb::RawTrbBuffer;
 use trb::event::EventTrb;
 
@@ -20,6 +22,7 @@ pub struct Entry {
     pub size: u32,
 }
 
+// `ready` is a field, with no Option around the others: `never_configured` (proofs/Faults.antt) and C's words speak of all seven.
 #[derive(Clone, Copy)]
 pub struct EventRing {
     pub ready: bool,
@@ -31,67 +34,57 @@ pub struct EventRing {
     pub cycle: bool,
 }
 
-// The refusal's number, 0 for none, and the ring afterwards.
-#[derive(Clone, Copy)]
-pub struct Moved {
-    pub refusal: u8,
-    pub ring: EventRing,
-}
-
 // The reader's state is of the same kind.
 #[derive(Clone, Copy)]
 pub struct EventReader {
     pub state: EventRing,
 }
 
-// The refusal's number, 0 for none, and the reader afterwards.
-#[derive(Clone, Copy)]
-pub struct ReaderMoved {
-    pub refusal: u8,
-    pub reader: EventReader,
-}
-
-#[derive(Clone, Copy)]
-pub enum Take {
-    Event,
-    Nothing,
-    Refused(u8),
-}
-
-// What was taken, the event's raw bytes where there is one, and the reader afterwards.
+// An event's raw bytes, and the reader after it.
 #[derive(Clone, Copy)]
 pub struct Taken {
-    pub answer: Take,
     pub trb: RawTrbBuffer,
     pub reader: EventReader,
-}
-
-fn read_entry(start: u64, mem: &[u8], address: u64) -> Entry
-    requires { inside (window start mem.now) address 16 ≡ true }
-    ensures { result ≡ entry_at (window start mem.now) address }
-{
-    let read = guest::read_trb(start, mem, address);
-    let trb = read.trb;
-    let d = guest::split(trb);
-    Entry {
-        base: (d.d0 as u64) + (d.d1 as u64) * 0x1_0000_0000,
-        size: d.d2,
-    }
-}
-
-fn good_entry(start: u64, mem: &[u8], e: Entry) -> bool
-    ensures { result ≡ good_entry (window start mem.now) e }
-{
-    (e.base % EventRing::SEGMENT_ALIGNMENT == 0)
-        & (1 <= e.size)
-        & (e.size <= EventRing::MOST_SLOTS)
-        & guest::inside(start, mem, e.base, EventRing::SLOT_SIZE * (e.size as u64))
 }
 
 fn count_ok(entries: u16) -> bool
     ensures { result ≡ count_ok entries }
 {
     (1 <= entries) & (entries <= EventRing::MOST_ENTRIES)
+}
+
+impl From<[u8; 16]> for Entry {
+    ghost from_gives = { λ trb e. e ≡ entry_of_bytes trb };
+
+    fn from(trb: [u8; 16]) -> Entry {
+        Entry {
+            base: guest::low(trb),
+            size: Dwords::from(trb).d2,
+        }
+    }
+}
+
+impl Entry {
+    const BYTES: u64 = 16;
+
+    fn good(self, mem: &Window<'_>) -> bool
+        ensures { result ≡ good_entry mem.now self }
+    {
+        (self.base % EventRing::SEGMENT_ALIGNMENT == 0)
+            & (1 <= self.size)
+            & (self.size <= EventRing::MOST_SLOTS)
+            & mem.inside(self.base, EventRing::SLOT_SIZE * u64::from(self.size))
+    }
+
+    fn read(mem: &Window<'_>, address: u64) -> Result<Entry, Refusal>
+        ensures { result ≡ entry_read mem.now address }
+    {
+        let e = Entry::from(mem.read_trb(address)?);
+        if !e.good(mem) {
+            return Err(Refusal::Segment);
+        }
+        Ok(e)
+    }
 }
 
 impl EventRing {
@@ -128,21 +121,12 @@ impl EventRing {
         ensures { result ≡ ok_state self }
     {
         self.ready
-            & ((1 <= self.entries) & (self.entries <= EventRing::MOST_ENTRIES))
+            & count_ok(self.entries)
             & (self.index < self.entries)
             & (1 <= self.remaining)
             & (self.remaining <= EventRing::MOST_SLOTS)
             & (self.table % EventRing::SEGMENT_ALIGNMENT == 0)
             & (self.place % EventRing::SLOT_SIZE == 0)
-    }
-
-    fn refused(self, number: u8) -> Moved
-        ensures { result ≡ refused_at self number }
-    {
-        Moved {
-            refusal: number,
-            ring: self,
-        }
     }
 
     // The entry after the present one.
@@ -161,13 +145,11 @@ impl EventRing {
         ensures { result ≡ entered self index e }
     {
         EventRing {
-            ready: self.ready,
-            table: self.table,
-            entries: self.entries,
             index,
             place: e.base,
             remaining: e.size,
             cycle: (index == 0) != self.cycle,
+            ..self
         }
     }
 
@@ -177,125 +159,92 @@ impl EventRing {
         ensures { result ≡ along self }
     {
         EventRing {
-            ready: self.ready,
-            table: self.table,
-            entries: self.entries,
-            index: self.index,
             place: self.place.wrapping_add(EventRing::SLOT_SIZE),
             remaining: self.remaining - 1,
-            cycle: self.cycle,
+            ..self
         }
     }
 
     // The ring in the next entry, or what refuses that entry.
-    fn enter_next(self, start: u64, mem: &[u8]) -> Moved
+    fn enter_next(self, mem: &Window<'_>) -> Result<EventRing, Refusal>
         requires { ok_state self ≡ true }
-        ensures { result ≡ enter_next (window start mem.now) self }
+        ensures { result ≡ moved (enter_next mem.now self) }
     {
         let index = self.next_index();
-        let past = 16 * (index as u64);
-        if guest::LAST - self.table < past {
-            return self.refused(refusal::OUTSIDE);
-        }
-        let entry = self.table + past;
-        if !guest::inside(start, mem, entry, 16) {
-            return self.refused(refusal::OUTSIDE);
-        }
-        let e = read_entry(start, mem, entry);
-        if !good_entry(start, mem, e) {
-            return self.refused(refusal::SEGMENT);
-        }
-        Moved {
-            refusal: 0,
-            ring: self.enter(index, e),
-        }
+        let past = Entry::BYTES * u64::from(index);
+        let entry = self.table.checked_add(past).ok_or(Refusal::Outside)?;
+        let e = Entry::read(mem, entry)?;
+        Ok(self.enter(index, e))
     }
 
     // The ring on the slot after the present one, or what refuses that.
-    fn next(self, start: u64, mem: &[u8]) -> Moved
+    fn next(self, mem: &Window<'_>) -> Result<EventRing, Refusal>
         requires { ok_state self ≡ true }
-        ensures { result ≡ next (window start mem.now) self }
+        ensures { result ≡ moved (next mem.now self) }
     {
         if self.remaining == 1 {
-            return self.enter_next(start, mem);
+            return self.enter_next(mem);
         }
-        Moved {
-            refusal: 0,
-            ring: self.step(),
-        }
+        Ok(self.step())
     }
 
-    pub fn configure(self, start: u64, mem: &[u8], table: u64, entries: u16) -> Moved
-        ensures { result ≡ configured (window start mem.now) self table entries }
+    pub fn configure(self, mem: &Window<'_>, table: u64, entries: u16) -> Result<EventRing, Refusal>
+        ensures { result ≡ moved (configured mem.now self table entries) }
     {
         if table % EventRing::SEGMENT_ALIGNMENT != 0 {
-            return self.refused(refusal::TABLE_BASE);
+            return Err(Refusal::TableBase);
         }
         if !count_ok(entries) {
-            return self.refused(refusal::TABLE_ENTRIES);
+            return Err(Refusal::TableEntries);
         }
-        if !guest::inside(start, mem, table, 16 * (entries as u64)) {
-            return self.refused(refusal::OUTSIDE);
+        if !mem.inside(table, Entry::BYTES * u64::from(entries)) {
+            return Err(Refusal::Outside);
         }
-        let e = read_entry(start, mem, table);
-        if !good_entry(start, mem, e) {
-            return self.refused(refusal::SEGMENT);
-        }
-        Moved {
-            refusal: 0,
-            ring: EventRing {
-                ready: true,
-                table,
-                entries,
-                index: 0,
-                place: e.base,
-                remaining: e.size,
-                cycle: true,
-            },
-        }
+        let e = Entry::read(mem, table)?;
+        Ok(EventRing {
+            ready: true,
+            table,
+            entries,
+            place: e.base,
+            remaining: e.size,
+            cycle: true,
+            ..EventRing::new()
+        })
     }
 
     // Where an add moves the ring to, or what refuses it, once the event has its bytes.
-    fn add_step(self, start: u64, mem: &[u8], report: u64) -> Moved
-        ensures { result ≡ add_step (window start mem.now) self report }
+    fn add_step(self, mem: &Window<'_>, report: u64) -> Result<EventRing, Refusal>
+        ensures { result ≡ moved (add_step mem.now self report) }
     {
         if !self.ok() {
-            return self.refused(refusal::STATE);
+            return Err(Refusal::State);
         }
         if report % EventRing::SLOT_SIZE != 0 {
-            return self.refused(refusal::REPORT);
+            return Err(Refusal::Report);
         }
-        if !guest::inside(start, mem, self.place, 16) {
-            return self.refused(refusal::OUTSIDE);
+        if !mem.inside(self.place, EventRing::SLOT_SIZE) {
+            return Err(Refusal::Outside);
         }
-        let next = self.next(start, mem);
-        if next.refusal != 0 {
-            return next;
+        let next = self.next(mem)?;
+        if next.place == report {
+            return Err(Refusal::Full);
         }
-        if next.ring.place == report {
-            return self.refused(refusal::FULL);
-        }
-        next
+        Ok(next)
     }
 
-    // Adds an event, given the place up to which the reader has reported that it took events.
-    pub fn add(self, start: u64, mem: &mut [u8], event: EventTrb, report: u64) -> Moved
-        ensures { (result ≡ added (window start mem.old) self event report) × (mem.new ≡ (added_memory (window start mem.old) self event report).bytes) }
+    // Adds an event, given the place up to which the reader has reported that it took events. What is written is the slice itself,
+    // and no window.
+    pub fn add(self, start: u64, mem: &mut [u8], event: EventTrb, report: u64) -> Result<EventRing, Refusal>
+        ensures { (result ≡ moved (added (window start mem.old) self event report)) × (mem.new ≡ (added_memory (window start mem.old) self event report).bytes) }
     {
-        let written = event.to_bytes(self.cycle);
-        if written.refusal != 0 {
-            return self.refused(written.refusal);
-        }
-        let step = self.add_step(start, mem, report);
-        if step.refusal != 0 {
-            return step;
-        }
-        let trb = written.trb;
-        guest::write_trb(start, mem, self.place, trb);
-        step
+        let trb = event.to_bytes(self.cycle)?;
+        let step = self.add_step(&Window::at(start, mem), report)?;
+        guest::write_trb(start, mem, self.place, trb)?;
+        Ok(step)
     }
 }
 
+// Its `new`, `reset` and `configure` are the ring's and no generic ones: document 01 gives each ring type its own.
 impl EventReader {
     pub fn new() -> Self
         ensures { result ≡ reader_at empty }
@@ -311,57 +260,28 @@ impl EventReader {
         EventReader::new()
     }
 
-    pub fn configure(self, start: u64, mem: &[u8], table: u64, entries: u16) -> ReaderMoved
-        ensures { result ≡ reader_configured (window start mem.now) self table entries }
+    pub fn configure(self, mem: &Window<'_>, table: u64, entries: u16) -> Result<EventReader, Refusal>
+        ensures { result ≡ reader_moved (reader_configured mem.now self table entries) }
     {
-        let state = self.state;
-        let moved = state.configure(start, mem, table, entries);
-        let ring = moved.ring;
-        ReaderMoved {
-            refusal: moved.refusal,
-            reader: EventReader { state: ring },
-        }
-    }
-
-    fn refused(self, number: u8) -> Taken
-        ensures { result ≡ take_refused self number }
-    {
-        Taken {
-            answer: Take::Refused(number),
-            trb: [0u8; 16],
-            reader: self,
-        }
+        let state = self.state.configure(mem, table, entries)?;
+        Ok(EventReader { state })
     }
 
     // Takes the event that stands in the reader's slot, if the slot is fresh.
-    pub fn take(self, start: u64, mem: &[u8]) -> Taken
-        ensures { result ≡ take (window start mem.now) self }
+    pub fn take(self, mem: &Window<'_>) -> Result<Option<Taken>, Refusal>
+        ensures { result ≡ taken_as (take mem.now self) }
     {
-        let state = self.state;
-        if !state.ok() {
-            return self.refused(refusal::STATE);
+        if !self.state.ok() {
+            return Err(Refusal::State);
         }
-        let read = guest::read_trb(start, mem, state.place);
-        if read.refusal != 0 {
-            return self.refused(refusal::OUTSIDE);
+        let trb = mem.read_trb(self.state.place)?;
+        if trb::cycle_bit(trb) != self.state.cycle {
+            return Ok(None);
         }
-        let trb = read.trb;
-        if trb::cycle_bit(trb) != state.cycle {
-            return Taken {
-                answer: Take::Nothing,
-                trb: [0u8; 16],
-                reader: self,
-            };
-        }
-        let moved = state.next(start, mem);
-        if moved.refusal != 0 {
-            return self.refused(moved.refusal);
-        }
-        let ring = moved.ring;
-        Taken {
-            answer: Take::Event,
+        let state = self.state.next(mem)?;
+        Ok(Some(Taken {
             trb,
-            reader: EventReader { state: ring },
-        }
+            reader: EventReader { state },
+        }))
     }
 }

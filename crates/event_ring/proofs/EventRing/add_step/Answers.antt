@@ -1,78 +1,69 @@
 -- By the tests in their order; those of the next slot are what `next` answered by.
 use Rattle.std.proofs.Common.{◌≡◌, ℕ, ◌%◌, true, not, eqb, [], ◌∷◌, sym, ap, ◌∙◌, eq-eqb, ne_eqb}
+use Rattle.std.proofs.lemmas.Result.{err_from_is_err_and}
+use Rattle.std.specs.Prelude.{Ok, Err}
 use Rattle.guest.specs.Judge.{judge}
-use Rattle.guest.specs.Memory.{Memory, window, inside}
+use Rattle.guest.specs.Memory.{Memory, inside}
+use Rattle.guest.specs.Refusals.{by_number}
+use Rattle.guest.specs.declared.refusal.Refusal.{Refusal}
 use Rattle.guest.proofs.Tests.{told}
 use Rattle.guest.proofs.Judge.{judge_append}
+use Rattle.event_ring.specs.Answers.{moved}
 use Rattle.event_ring.specs.Ring.{ok_state, next_tests, next_state, next, full, add_step, refused_at, moved_to}
 use Rattle.event_ring.specs.declared.EventRing.{EventRing}
-use Rattle.event_ring.specs.declared.Moved.{Moved}
-use Rattle.event_ring.proofs.Laws.{judge_then, next_passes, next_given, next_stops}
+use Rattle.event_ring.proofs.Laws.{judge_then, stopped_as, moved_refuses, next_ok, next_err}
 use Rattle.event_ring.proofs.EventRing.add_step.Goals as goal
 
--- where the tests before pass, and `next` answered r
+-- where the tests before pass
 module _ (m : Memory) (s : EventRing) (report : ℕ) (ok : ok_state s ≡ true) (even : eqb (report % 16) 0 ≡ true)
-    (here : inside m s.place 16 ≡ true) (r : Moved) (answer : r ≡ next m s) where
-  stopped : (r.refusal ≡ 0 → ⊥) → r ≡ add_step m s report
+    (here : inside m s.place 16 ≡ true) where
+  stopped : (d : Refusal) → moved (next m s) ≡ Err d → Err d ≡ moved (add_step m s report)
   unfolding add_step judge
-  stopped h =
-      let stops = next_stops m s r answer h in
-      rw (ok, even, here, judge_append) (answer ∙ stops (refused_at s) _ ∙ sym (stops (refused_at s) _))
+  stopped d e = rw (ok, even, here, judge_append) (stopped_as (next_tests m s) d (next_err m s d e) moved (refused_at s) _ (moved_refuses s))
 
-  module _ (h : r.refusal ≡ 0) where
-    there : next_state m s ≡ r.ring
-    there = sym (ap (λ (x : Moved). x.ring) (next_given m s r answer h))
-
-    rest : add_step m s report ≡ judge ((7, not (full m s report)) ∷ []) (refused_at s) (moved_to (next_state m s))
-    unfolding add_step judge
-    rest =
-        rw (ok, even, here)
-        (judge_then (next_tests m s) ((7, not (full m s report)) ∷ []) _ _ (next_passes m s r answer h))
+  rest : (t : EventRing) → moved (next m s) ≡ Ok t
+      → add_step m s report ≡ judge ((7, not (eqb t.place report)) ∷ []) (refused_at s) (moved_to t)
+  unfolding add_step judge
+  rest t e =
+      let p = next_ok m s t e in
+      rw (ok, even, here)
+      (judge_then (next_tests m s) ((7, not (full m s report)) ∷ []) (refused_at s) (moved_to (next_state m s)) p.0
+      ∙ ap (λ (x : EventRing). judge ((7, not (eqb x.place report)) ∷ []) (refused_at s) (moved_to x)) (sym p.1))
 
 pub returns-then-not-ok : goal.returns-then-not-ok
-unfolding add_step judge
-returns-then-not-ok c = rw (told c.ok.ensures c.if-not-ok.true) c.refused.ensures
+unfolding add_step judge by_number
+returns-then-not-ok c = rw (told c.ok.ensures c.if-not-ok.true)
 
 pub returns-then-report-ne0 : goal.returns-then-report-ne0
-unfolding add_step judge
-returns-then-report-ne0 c =
-    rw (told c.ok.ensures c.if-not-ok.false, ne_eqb _ _ c.if-report-ne0.true) c.refused-then-report-ne0.ensures
+unfolding add_step judge by_number
+returns-then-report-ne0 c = rw (told c.ok.ensures c.if-not-ok.false, ne_eqb _ _ c.if-report-ne0.true)
 
 pub returns-then-not-inside : goal.returns-then-not-inside
-unfolding add_step judge
+unfolding add_step judge by_number
 returns-then-not-inside c =
     rw (told c.ok.ensures c.if-not-ok.false, eq-eqb _ _ c.if-report-ne0.false, told c.inside.ensures c.if-not-inside.true)
-    c.refused-then-not-inside.ensures
 
-pub returns-then-next-ne0 : goal.returns-then-next-ne0
-returns-then-next-ne0 c =
-    stopped (window c.args.start c.args.mem.now) c.args.self c.args.report (told c.ok.ensures c.if-not-ok.false)
-    (eq-eqb _ _ c.if-report-ne0.false) (told c.inside.ensures c.if-not-inside.false) c.next-next.result c.next-next.ensures
-    c.if-next-ne0.true
+pub returns-in_err-next : goal.returns-in_err-next
+returns-in_err-next c =
+    let p = err_from_is_err_and c.from_residual.result c.from_residual.ensures.1 in
+    rw (p.1, p.2)
+    (stopped c.args.mem.now c.args.self c.args.report (told c.ok.ensures c.if-not-ok.false) (eq-eqb _ _ c.if-report-ne0.false)
+    (told c.inside.ensures c.if-not-inside.false) _ (sym c.next.ensures ∙ c.in_err-next.was))
 
 pub returns-then-next-report : goal.returns-then-next-report
-unfolding judge
+unfolding judge by_number
 returns-then-next-report c =
-    let m = window c.args.start c.args.mem.now in
-    let ok = told c.ok.ensures c.if-not-ok.false in
-    let even = eq-eqb _ _ c.if-report-ne0.false in
-    let here = told c.inside.ensures c.if-not-inside.false in
-    let r = c.next-next in
     rw (
-      rest m c.args.self c.args.report ok even here r.result r.ensures c.if-next-ne0.false,
-      there m c.args.self c.args.report ok even here r.result r.ensures c.if-next-ne0.false,
+      rest c.args.mem.now c.args.self c.args.report (told c.ok.ensures c.if-not-ok.false) (eq-eqb _ _ c.if-report-ne0.false)
+          (told c.inside.ensures c.if-not-inside.false) _ (sym c.next.ensures ∙ c.in_ok-next.was),
       eq-eqb _ _ c.if-next-report.true,
     )
-    c.refused-then-next-report.ensures
 
 pub returns : goal.returns
 unfolding judge
 returns c =
-    let m = window c.args.start c.args.mem.now in
-    let ok = told c.ok.ensures c.if-not-ok.false in
-    let even = eq-eqb _ _ c.if-report-ne0.false in
-    let here = told c.inside.ensures c.if-not-inside.false in
-    let r = c.next-next in
-    let q = there m c.args.self c.args.report ok even here r.result r.ensures c.if-next-ne0.false in
-    rw (rest m c.args.self c.args.report ok even here r.result r.ensures c.if-next-ne0.false, q, ne_eqb _ _ c.if-next-report.false)
-    (next_given m c.args.self r.result r.ensures c.if-next-ne0.false ∙ ap moved_to q)
+    rw (
+      rest c.args.mem.now c.args.self c.args.report (told c.ok.ensures c.if-not-ok.false) (eq-eqb _ _ c.if-report-ne0.false)
+          (told c.inside.ensures c.if-not-inside.false) _ (sym c.next.ensures ∙ c.in_ok-next.was),
+      ne_eqb _ _ c.if-next-report.false,
+    )

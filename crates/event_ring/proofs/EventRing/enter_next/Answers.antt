@@ -1,61 +1,66 @@
--- By the tests of the next entry; one past the last address is outside.
-use Rattle.std.proofs.Common.{◌≡◌, ℕ, ◌+◌, ◌*◌, Bool, false, ap, ◌∙◌, arith}
+-- By what the read of the next entry answered; an entry past the last address is outside.
+use Rattle.std.proofs.Common.{◌≡◌, ℕ, ◌+◌, ◌*◌, ◌^◌, ◌<◌, false, sym, ap, ap₂, ◌∙◌, arith}
+use Rattle.std.proofs.lemmas.Result.{err_from_is_err_and}
+use Rattle.std.specs.Prelude.{Option, Some, None, Result, Ok, Err, SomeIff, ok_or}
 use Rattle.guest.specs.Judge.{judge}
-use Rattle.guest.specs.Memory.{Memory, window, inside}
-use Rattle.guest.proofs.Tests.{told}
+use Rattle.guest.specs.Memory.{Memory, inside}
+use Rattle.guest.specs.Refusals.{by_number}
+use Rattle.guest.specs.declared.refusal.Refusal.{Refusal}
+use Rattle.guest.specs.declared.refusal.Refusal.TheVariants.{Outside}
 use Rattle.guest.proofs.Memory.{inside_no}
-use Rattle.event_ring.specs.Ring.{entry_at, next_index, next_entry, good_entry, moved_to}
+use Rattle.event_ring.specs.Answers.{moved}
+use Rattle.event_ring.specs.Ring.{next_index, next_entry, entry_tests, entry_read, entered, refused_at, moved_to, enter_next}
 use Rattle.event_ring.specs.declared.Entry.{Entry}
 use Rattle.event_ring.specs.declared.EventRing.{EventRing}
-use Rattle.event_ring.proofs.Laws.{limits}
+use Rattle.event_ring.proofs.Laws.{limits, result_ok, result_err, stopped_as, read_numbered, moved_refuses}
 use Rattle.event_ring.proofs.EventRing.enter_next.Goals as goal
 
--- by the index that was worked out
-module _ (m : Memory) (s : EventRing) (i : ℕ) (index : i ≡ next_index s) where
-  within : (b : Bool) → b ≡ inside m (s.table + 16 * i) 16 → b ≡ inside m (s.table + 16 * next_index s) 16
-  within b e = rw (← index) e
+-- what a sum that was tried says
+sum_is : (a b n : ℕ) (o : Option ℕ) → SomeIff o (a + b < 2 ^ 64) (a + b) → ok_or o Outside ≡ Ok n → n ≡ a + b
+sum_is a b n None s e = absurd (grind arith)
+sum_is a b n (Some x) s e = cc s.1
 
-  read : (x : Entry) → x ≡ entry_at m (s.table + 16 * i) → x ≡ next_entry m s
-  read x e = rw (← index) e
+no_sum : (a b : ℕ) (d : Refusal) (o : Option ℕ) → SomeIff o (a + b < 2 ^ 64) (a + b) → ok_or o Outside ≡ Err d → (d ≡ Outside) × (a + b < 2 ^ 64 → ⊥)
+no_sum a b d None s e = (cc, s)
+no_sum a b d (Some x) s e = absurd (grind arith)
 
-  good : (x : Entry) (b : Bool) → x ≡ entry_at m (s.table + 16 * i) → b ≡ good_entry m x → b ≡ good_entry m (next_entry m s)
-  good x b e g = g ∙ ap (good_entry m) (read x e)
+-- the entry at the address that was worked out
+module _ (m : Memory) (s : EventRing) (i a : ℕ) (index : i ≡ next_index s) (at : a ≡ s.table + 16 * i) where
+  read_next : (x : Result Entry Refusal) → x ≡ entry_read m a → x ≡ judge (entry_tests m s) (λ n. Err (by_number n)) (Ok (next_entry m s))
+  read_next x e = rw (← index, ← at) e
 
 pub next_index-index-requires : goal.next_index-index-requires
 next_index-index-requires c = omega (arith, limits c.args.self c.requires)
 
-pub returns-then-self-past : goal.returns-then-self-past
-unfolding judge
-returns-then-self-past c =
-    let m = window c.args.start c.args.mem.now in
-    let past : inside m (c.args.self.table + 16 * next_index c.args.self) 16 ≡ false =
-    rw (← c.next_index-index.ensures) (inside_no m _ 16 (λ w. omega (arith, w.below))) in
-    rw past c.refused.ensures
+pub returns-in_err-entry : goal.returns-in_err-entry
+unfolding judge by_number
+returns-in_err-entry c =
+    let m = c.args.mem.now in
+    let s = c.args.self in
+    let p = err_from_is_err_and c.from_residual.result c.from_residual.ensures.1 in
+    let q = no_sum s.table (16 * c.from-past.result) _ _ c.checked_add.ensures (sym c.ok_or.ensures.value ∙ c.in_err-entry.was) in
+    let past : inside m (s.table + 16 * next_index s) 16 ≡ false =
+    inside_no m _ 16 (λ w. q.1 (omega (arith, w.below, c.from-past.ensures, c.next_index-index.ensures))) in
+    rw (p.1, p.2, q.0, past)
 
-pub returns-then-not-inside : goal.returns-then-not-inside
-unfolding judge
-returns-then-not-inside c =
-    rw (told (within (window c.args.start c.args.mem.now) c.args.self _ c.next_index-index.ensures _ c.inside.ensures) c.if-not-inside.true)
-    c.refused-then-not-inside.ensures
-
-pub returns-then-not-good_entry : goal.returns-then-not-good_entry
-unfolding judge
-returns-then-not-good_entry c =
-    let m = window c.args.start c.args.mem.now in
-    rw (
-      told (within m c.args.self _ c.next_index-index.ensures _ c.inside.ensures) c.if-not-inside.false,
-      told (good m c.args.self _ c.next_index-index.ensures _ _ c.read_entry-e.ensures c.good_entry.ensures) c.if-not-good_entry.true,
-    )
-    c.refused-then-not-good_entry.ensures
+pub returns-in_err-e : goal.returns-in_err-e
+returns-in_err-e c =
+    let m = c.args.mem.now in
+    let s = c.args.self in
+    let p = err_from_is_err_and c.from_residual-in_err-e.result c.from_residual-in_err-e.ensures.1 in
+    let at = sum_is s.table (16 * c.from-past.result) _ _ c.checked_add.ensures (sym c.ok_or.ensures.value ∙ c.in_ok-entry.was) in
+    let read = read_next m s _ _ c.next_index-index.ensures (rw c.from-past.ensures at at) _ c.read.ensures in
+    rw (p.1, p.2)
+    (stopped_as (entry_tests m s) _
+    (result_err (entry_tests m s) (read_numbered m (s.table + 16 * next_index s)) (next_entry m s) _ (sym read ∙ c.in_err-e.was))
+    moved (refused_at s) (moved_to (entered s (next_index s) (next_entry m s))) (moved_refuses s))
 
 pub returns : goal.returns
 unfolding judge
 returns c =
-    let m = window c.args.start c.args.mem.now in
-    rw (
-      told (within m c.args.self _ c.next_index-index.ensures _ c.inside.ensures) c.if-not-inside.false,
-      told (good m c.args.self _ c.next_index-index.ensures _ _ c.read_entry-e.ensures c.good_entry.ensures) c.if-not-good_entry.false,
-      ← read m c.args.self _ c.next_index-index.ensures _ c.read_entry-e.ensures,
-      ← c.next_index-index.ensures,
-    )
-    (ap moved_to c.enter.ensures)
+    let m = c.args.mem.now in
+    let s = c.args.self in
+    let at = sum_is s.table (16 * c.from-past.result) _ _ c.checked_add.ensures (sym c.ok_or.ensures.value ∙ c.in_ok-entry.was) in
+    let read = read_next m s _ _ c.next_index-index.ensures (rw c.from-past.ensures at at) _ c.read.ensures in
+    let q = result_ok (entry_tests m s) (next_entry m s) _ (sym read ∙ c.in_ok-e.was) in
+    rw (q.0.0, q.0.1.0) (ap Ok (c.enter.ensures ∙ ap₂ (entered s) c.next_index-index.ensures q.1))

@@ -1,7 +1,8 @@
 -- By whether one slot remains.
 use Rattle.std.proofs.Common.{ap, eq-eqb, ne_eqb}
+use Rattle.std.specs.Prelude.{Ok}
 use Rattle.guest.specs.Judge.{judge}
-use Rattle.event_ring.specs.Ring.{next_tests, next_state, moved_to}
+use Rattle.event_ring.specs.Ring.{next_tests, next_state}
 use Rattle.event_ring.proofs.Laws.{limits}
 use Rattle.event_ring.proofs.EventRing.next.Goals as goal
 
@@ -14,4 +15,4 @@ step-requires c = (limits c.args.self c.requires).left
 
 pub returns : goal.returns
 unfolding judge next_tests next_state
-returns c = rw (ne_eqb _ _ c.if-self-eq1.false) (ap moved_to c.step.ensures)
+returns c = rw (ne_eqb _ _ c.if-self-eq1.false) (ap Ok c.step.ensures)
