@@ -1,7 +1,7 @@
 -- Words say what they are made of: a state, a ring, and what a chase or a take came to, are read back from them as they were. A definition
 -- that exchanges two fields or two answers, and code that follows it, fails here. Assumes nothing.
 use Prim.{tt}
-use Rattle.std.proofs.Common.{◌≡◌, ℕ, ◌+◌, ◌*◌, ◌%◌, ◌^◌, ◌<◌, Bool, true, false, cond, eqb, List, [], ◌∷◌, length, refl, ap, ◌∙◌, ap₂, arith, lt-ltb}
+use Rattle.std.proofs.Common.{◌≡◌, ℕ, ◌+◌, ◌*◌, ◌%◌, ◌^◌, ◌<◌, Bool, true, false, cond, eqb, List, [], ◌∷◌, length, refl, ap, arith, lt-ltb}
 use Rattle.guest.specs.Judge.{judge}
 use Rattle.guest.specs.Memory.{Memory, inside, trb_at}
 use Rattle.guest.specs.Fields.{bits, whole_of}
@@ -11,14 +11,17 @@ use Rattle.trb.specs.Trb.{bit, when, ◌or◌, one_of}
 use Rattle.event_ring.specs.Ring.{ok_state, good_entry, last, next_index, next_entry, next_tests, next_state, fresh_of, take, take_refused, nothing_at, taken_at}
 use Rattle.event_ring.specs.declared.EventRing.{EventRing}
 use Rattle.event_ring.specs.declared.EventReader.{EventReader}
-use Rattle.event_ring.specs.declared.Take.{Take}
-use Rattle.linked_ring.specs.Chase.{number_of}
+use Rattle.event_ring.specs.Answers.{Take}
 use Rattle.linked_ring.specs.declared.LinkedRing.{LinkedRing}
 use Rattle.linked_ring.specs.declared.Notes.{Notes}
-use Rattle.linked_ring.specs.declared.Answer.{Answer}
+use Rattle.linked_ring.specs.declared.Found.{Found}
+use Rattle.std.specs.Prelude.{Result, Ok, Err}
+use Rattle.guest.specs.Refusals.{number_of, by_number}
+use Rattle.guest.specs.declared.refusal.Refusal.{Refusal}
+use Rattle.guest.proofs.Numbers.{numbered, number_lt}
 use Rattle.linked_ring.specs.declared.Chase.{Chase}
 use Rattle.words.proofs.Back.{read, nth, bit_lt}
-use Rattle.lomvigast_ffi.specs.Linked.{ring_of, ring_words, kind_of, notes_word, flat_chase}
+use Rattle.lomvigast_ffi.specs.Linked.{ring_of, ring_words, ring_after, notes_word, flat_chase}
 use Rattle.lomvigast_ffi.specs.declared.linked.CChase.{CChase}
 use Rattle.lomvigast_ffi.specs.Rings.{words_of, fits, state_of, take_number}
 
@@ -62,24 +65,8 @@ ring_back r = ap (λ (b : Bool). record { place = r.place; cycle = b }) (by r.cy
 
 -- ---- what a chase came to, by the first word, and what it met, by the last
 
-abbrev pub answer_in : ℕ → Answer
-answer_in w =
-    let kind = bits w 0 8 in
-    when (eqb kind 0) Answer.NothingNew or
-    when (eqb kind 1) Answer.Trb or
-    when (eqb kind 2) Answer.TooManyLinks or
-    Answer.Refused (bits w 8 8)
-
 abbrev pub notes_in : ℕ → Notes
 notes_in w = record { links = bits w 0 16; cleared = eqb (bits w 16 8) 1; completion = eqb (bits w 24 8) 1 }
-
-answer_back : (a : Answer) → number_of a < 2 ^ 8 → answer_in (kind_of a + number_of a * 2 ^ 8) ≡ a
-answer_back Answer.NothingNew h = refl
-answer_back Answer.Trb h = refl
-answer_back Answer.TooManyLinks h = refl
-answer_back (Answer.Refused n) h =
-    let g = read (8 ∷ 8 ∷ []) (3 ∷ n ∷ []) (3 + n * 2 ^ 8) (omega arith) (omega arith, (h, tt)) in
-    rw (nth 0 g, nth 1 g)
 
 notes_back : (n : Notes) → n.links < 2 ^ 16 → notes_in (notes_word n) ≡ n
 notes_back n h =
@@ -88,29 +75,38 @@ notes_back n h =
     rw (nth 0 g, nth 1 g, nth 2 g, flag_back n.cleared, flag_back n.completion)
 
 -- the whole of it, with the ring's words
-abbrev pub chase_in : CChase → List ℕ → Chase
+abbrev pub chase_in : CChase → List ℕ → Result Chase Refusal
 chase_in f ws =
-    record {
-      answer = answer_in f.kind;
-      trb = whole_of f.low f.high;
-      address = f.address;
-      ring = ring_of ws;
-      notes = notes_in f.notes;
-    }
+    let kind = bits f.kind 0 8 in
+    let came_to : Found → Result Chase Refusal = λ x. Ok (record { found = x; ring = ring_of ws; notes = notes_in f.notes }) in
+    when (eqb kind 0) (came_to Found.NothingNew) or
+    when (eqb kind 1) (came_to (Found.Trb (record { address = f.address; buffer = whole_of f.low f.high }))) or
+    when (eqb kind 2) (came_to Found.TooManyLinks) or
+    Err (by_number (bits f.kind 8 8))
 
 -- the fields are of their types in the code
-pub record Fitting (c : Chase) : Type 0 where
-  pub number : number_of c.answer < 2 ^ 8
-  pub bytes : Bytes c.trb
-  pub sixteen : length c.trb ≡ 16
-  pub links : c.notes.links < 2 ^ 16
+abbrev pub Whole : Found → Type 0
+Whole Found.NothingNew = Unit
+Whole (Found.Trb t) = Bytes t.buffer × (length t.buffer ≡ 16)
+Whole Found.TooManyLinks = Unit
 
-pub chase_back : (c : Chase) → Fitting c → chase_in (flat_chase c) (ring_words c.ring) ≡ c
-chase_back c f =
-    let of : Answer → List ℕ → LinkedRing → Notes → Chase = λ a t r n. record { answer = a; trb = t; address = c.address; ring = r; notes = n } in
-    ap₂ (λ (a : Answer) (t : List ℕ). of a t (ring_of (ring_words c.ring)) (notes_in (notes_word c.notes)))
-    (answer_back c.answer f.number) (whole_halves c.trb f.bytes f.sixteen)
-    ∙ ap₂ (λ (r : LinkedRing) (n : Notes). of c.answer c.trb r n) (ring_back c.ring) (notes_back c.notes f.links)
+abbrev pub Fitting : Result Chase Refusal → Type 0
+Fitting (Ok c) = Whole c.found × (c.notes.links < 2 ^ 16)
+Fitting (Err r) = Unit
+
+came_back : (x : Found) (r : LinkedRing) (n : Notes) (ws : List ℕ) → Whole x → n.links < 2 ^ 16
+    → chase_in (flat_chase (Ok (record { found = x; ring = r; notes = n }))) (ring_after (Ok (record { found = x; ring = r; notes = n })) ws)
+    ≡ Ok (record { found = x; ring = r; notes = n })
+came_back Found.NothingNew r n ws w h = rw (ring_back r, notes_back n h)
+came_back (Found.Trb t) r n ws w h = rw (whole_halves t.buffer w.0 w.1, ring_back r, notes_back n h)
+came_back Found.TooManyLinks r n ws w h = rw (ring_back r, notes_back n h)
+
+-- whatever words a refusal left as they were
+pub chase_back : (c : Result Chase Refusal) (ws : List ℕ) → Fitting c → chase_in (flat_chase c) (ring_after c ws) ≡ c
+chase_back (Ok c) ws f = came_back c.found c.ring c.notes ws f.0 f.1
+chase_back (Err r) ws f =
+    let g = read (8 ∷ 8 ∷ []) (3 ∷ number_of r ∷ []) (3 + number_of r * 2 ^ 8) (omega arith) (omega arith, (number_lt r, tt)) in
+    rw (nth 0 g, nth 1 g) (ap Err (numbered r))
 
 -- ---- what a take came to: no refusal of a take has the number of an event or of nothing
 

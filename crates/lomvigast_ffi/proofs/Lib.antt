@@ -4,3 +4,4 @@ pub mod Usual
 pub mod Links
 pub mod Back
 pub mod Unmoved
+pub mod Refused

@@ -5,7 +5,7 @@ use Rattle.guest.specs.Bytes.{le}
 use Rattle.guest.specs.Memory.{Memory, offset, trb_at}
 use Rattle.guest.specs.Fields.{dword}
 use Rattle.guest.proofs.Bytes.{Bytes, le_part, le_lt}
-use Rattle.trb.specs.Trb.{cycle_of}
+use Rattle.trb.specs.Trb.{bit, cycle_of}
 
 module _ (m : Memory) (a : ℕ) (b : Bytes m.bytes) where
   pub four_below : (j : ℕ) → j + 4 ≤ 16 → le (trb_at m a) j 4 < 2 ^ 32
@@ -31,3 +31,9 @@ module _ (trb : List ℕ) where
       differ (suc zero) (suc zero) p q n = absurd (n refl)
       differ (suc zero) (suc (suc y)) p q n = absurd (omega arith)
       differ (suc (suc x)) y p q n = absurd (omega arith)
+
+-- a flag's word
+pub bit_one : (n : ℕ) → n < 2 → bit (eqb n 1) ≡ n
+bit_one zero h = refl
+bit_one (suc zero) h = refl
+bit_one (suc (suc n)) h = absurd (omega arith)

@@ -1,15 +1,9 @@
 -- A ring's words and its state: what the words of the usual case say, and where a step leads. Assumes nothing.
-use Rattle.std.proofs.Common.{◌≡◌, ℕ, zero, suc, ◌+◌, ◌-◌, ◌*◌, ◌/◌, ◌%◌, ◌^◌, ◌<◌, ◌≤◌, true, false, ◌&&◌, eqb, ltb, leb, List, get_or, refl, mod-eq_of_lt, arith, ltb-true, lt-ltb, eq-eqb, ne_eqb, eqb-true, le-leb, leb-true}
+use Rattle.std.proofs.Common.{◌≡◌, ℕ, ◌+◌, ◌-◌, ◌*◌, ◌/◌, ◌%◌, ◌^◌, ◌<◌, ◌≤◌, true, false, ◌&&◌, eqb, ltb, leb, List, get_or, mod-eq_of_lt, arith, ltb-true, lt-ltb, eq-eqb, ne_eqb, eqb-true, le-leb, leb-true}
 use Rattle.guest.proofs.Tests.{both}
-use Rattle.trb.specs.Trb.{bit}
 use Rattle.event_ring.specs.Ring.{ok_state, along}
+use Rattle.lomvigast_ffi.proofs.Slots.{bit_one}
 use Rattle.lomvigast_ffi.specs.Rings.{words_of, fits, fields_of, state_of, plain, stepped}
-
--- a flag's word
-pub bit_one : (n : ℕ) → n < 2 → bit (eqb n 1) ≡ n
-bit_one zero h = refl
-bit_one (suc zero) h = refl
-bit_one (suc (suc n)) h = absurd (omega arith)
 
 -- a word that its field can hold is read whole
 pub held : (ws : List ℕ) → fits ws ≡ true

@@ -7,7 +7,7 @@ use Rattle.guest.specs.Answers.{write_memory}
 use Rattle.trb.specs.Events.{event_bytes}
 use Rattle.event_ring.specs.Ring.{reader_at, take}
 use Rattle.event_ring.specs.declared.EventRing.{EventRing}
-use Rattle.event_ring.specs.declared.Taken.{Taken}
+use Rattle.event_ring.specs.Answers.{TakeMoved}
 use Rattle.event_ring.proofs.Along.{along_added, along_nothing, along_taken}
 use Rattle.words.specs.Events.{event_in, bytes_from, written}
 use Rattle.words.specs.declared.event.CTrb.{CTrb}
@@ -49,7 +49,7 @@ module _ (m : Memory) (ws : List ℕ) (h : plain ws ≡ true) (i : inside m (get
 
   -- ---- take
 
-  abbrev taken : Taken
+  abbrev taken : TakeMoved
   taken = take m (reader_at (state_of ws))
 
   pub usual_nothing : (dword (trb_at m (w 1)) 3 % 2 ≡ w 6 → ⊥) → (out : List ℕ)

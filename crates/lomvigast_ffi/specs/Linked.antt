@@ -1,11 +1,13 @@
 -- The link-following reader by words: the ring is two, its place and its cycle state, 0 or 1.
-use Rattle.std.specs.Prelude.{ℕ, ◌+◌, ◌*◌, ◌%◌, ◌^◌, cond, List, [], ◌∷◌, ◌==◌, slice_index}
+use Rattle.std.specs.Prelude.{ℕ, ◌+◌, ◌*◌, ◌%◌, ◌^◌, List, [], ◌∷◌, ◌==◌, slice_index, replicate, Result, Ok, Err}
+use Rattle.guest.specs.Refusals as refusals
 use Rattle.guest.specs.Fields.{low_of, high_of}
+use Rattle.guest.specs.declared.refusal.Refusal.{Refusal}
 use Rattle.trb.specs.Trb.{bit}
-use Rattle.linked_ring.specs.Chase.{ring_at, number_of}
+use Rattle.linked_ring.specs.Chase.{ring_at}
 use Rattle.linked_ring.specs.declared.LinkedRing.{LinkedRing}
 use Rattle.linked_ring.specs.declared.Notes.{Notes}
-use Rattle.linked_ring.specs.declared.Answer.{Answer}
+use Rattle.linked_ring.specs.declared.Found.{Found}
 use Rattle.linked_ring.specs.declared.Chase.{Chase}
 use Rattle.lomvigast_ffi.specs.declared.linked.CChase.{CChase}
 
@@ -16,27 +18,39 @@ abbrev pub ring_words : LinkedRing → List ℕ
 ring_words r = r.place ∷ bit r.cycle ∷ []
 
 -- the words after a chase: a refusal leaves them as they were
-abbrev pub ring_after : Chase → List ℕ → List ℕ
-ring_after c ws = cond (number_of c.answer == 0) (ring_words c.ring) ws
+abbrev pub ring_after : Result Chase Refusal → List ℕ → List ℕ
+ring_after (Ok c) ws = ring_words c.ring
+ring_after (Err r) ws = ws
 
--- the answers by number, none of which stands for two
-abbrev pub kind_of : Answer → ℕ
-kind_of Answer.NothingNew = 0
-kind_of Answer.Trb = 1
-kind_of Answer.TooManyLinks = 2
-kind_of (Answer.Refused n) = 3
+-- the answers by number, of which 3 is a refusal's
+abbrev pub kind_of : Found → ℕ
+kind_of Found.NothingNew = 0
+kind_of (Found.Trb t) = 1
+kind_of Found.TooManyLinks = 2
+
+-- the TRB's address and its sixteen bytes; 0s where there is none
+abbrev pub address_of : Found → ℕ
+address_of Found.NothingNew = 0
+address_of (Found.Trb t) = t.address
+address_of Found.TooManyLinks = 0
+
+abbrev pub bytes_of : Found → List ℕ
+bytes_of Found.NothingNew = replicate 16 0
+bytes_of (Found.Trb t) = t.buffer
+bytes_of Found.TooManyLinks = replicate 16 0
 
 abbrev pub notes_word : Notes → ℕ
 notes_word n = n.links + bit n.cleared * 2 ^ 16 + bit n.completion * 2 ^ 24
 
 -- the five words of a chase as Rust and C hold it: byte 0 is the kind, byte 1 a refusal's number; the address and the sixteen bytes; in
 -- the last word the notes, two bytes of links and a byte for each flag
-abbrev pub flat_chase : Chase → CChase
-flat_chase c =
+abbrev pub flat_chase : Result Chase Refusal → CChase
+flat_chase (Ok c) =
     record {
-      kind = kind_of c.answer + number_of c.answer * 2 ^ 8;
-      address = c.address;
-      low = low_of c.trb;
-      high = high_of c.trb;
+      kind = kind_of c.found;
+      address = address_of c.found;
+      low = low_of (bytes_of c.found);
+      high = high_of (bytes_of c.found);
       notes = notes_word c.notes;
     }
+flat_chase (Err r) = record { kind = 3 + refusals.number_of r * 2 ^ 8; address = 0; low = 0; high = 0; notes = 0 }

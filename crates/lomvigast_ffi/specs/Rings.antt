@@ -1,15 +1,13 @@
 -- The event ring and its reader by words: the state is seven of them, a field each. A new field is a word more, here and in `CEventRing`
 -- of src/rings.rt.
-use Rattle.std.specs.Prelude.{ℕ, ◌%◌, ◌^◌, Bool, cond, ◌&&◌, List, [], ◌∷◌, ◌==◌, nat_le, nat_lt, slice_index}
+use Rattle.std.specs.Prelude.{ℕ, ◌%◌, ◌^◌, Bool, cond, ◌&&◌, List, [], ◌∷◌, ◌==◌, nat_le, nat_lt, slice_index, Ok, Err}
 use Rattle.guest.specs.Memory.{Memory}
 use Rattle.trb.specs.Trb.{bit}
-use Rattle.trb.specs.declared.event.EventVariant.{EventVariant}
+use Rattle.guest.specs.Refusals.{number_of}
+use Rattle.words.specs.Events.{Given}
 use Rattle.event_ring.specs.Ring.{empty, refused_at, added, added_memory}
+use Rattle.event_ring.specs.Answers.{Moved, ReaderMoved, Take, TakeMoved}
 use Rattle.event_ring.specs.declared.EventRing.{EventRing}
-use Rattle.event_ring.specs.declared.Moved.{Moved}
-use Rattle.event_ring.specs.declared.ReaderMoved.{ReaderMoved}
-use Rattle.event_ring.specs.declared.Take.{Take}
-use Rattle.event_ring.specs.declared.Taken.{Taken}
 use Rattle.lomvigast_ffi.specs.Memory.{trb_words}
 
 -- ---- the state
@@ -60,17 +58,17 @@ abbrev pub reader_after : ReaderMoved → List ℕ → List ℕ
 reader_after m ws = cond (m.refusal == 0) (words_of m.reader.state) ws
 
 -- an event added as it was given: what refuses the given event comes first, and changes nothing
-abbrev pub added_from : Memory → EventRing → EventVariant → ℕ → Moved
-added_from m s (EventVariant.Event e) report = added m s e report
-added_from m s (EventVariant.Unrecognized x) report = refused_at s x.number
+abbrev pub added_from : Memory → EventRing → Given → ℕ → Moved
+added_from m s (Ok e) report = added m s e report
+added_from m s (Err x) report = refused_at s (number_of x.refusal)
 
-abbrev pub memory_from : Memory → EventRing → EventVariant → ℕ → Memory
-memory_from m s (EventVariant.Event e) report = added_memory m s e report
-memory_from m s (EventVariant.Unrecognized x) report = m
+abbrev pub memory_from : Memory → EventRing → Given → ℕ → Memory
+memory_from m s (Ok e) report = added_memory m s e report
+memory_from m s (Err x) report = m
 
-abbrev pub ring_from : Memory → List ℕ → EventVariant → ℕ → List ℕ
-ring_from m ws (EventVariant.Event e) report = ring_after (added m (state_of ws) e report) ws
-ring_from m ws (EventVariant.Unrecognized x) report = ws
+abbrev pub ring_from : Memory → List ℕ → Given → ℕ → List ℕ
+ring_from m ws (Ok e) report = ring_after (added m (state_of ws) e report) ws
+ring_from m ws (Err x) report = ws
 
 -- ---- a take: 0 for an event, 255 for nothing, or the refusal's number
 
@@ -85,8 +83,8 @@ of_event Take.Event x y = x
 of_event Take.Nothing x y = y
 of_event (Take.Refused n) x y = y
 
-abbrev pub put_taken : Taken → List ℕ → List ℕ
+abbrev pub put_taken : TakeMoved → List ℕ → List ℕ
 put_taken t ws = of_event t.answer (trb_words t.trb) ws
 
-abbrev pub taken_from : Taken → List ℕ → List ℕ
+abbrev pub taken_from : TakeMoved → List ℕ → List ℕ
 taken_from t ws = of_event t.answer (words_of t.reader.state) ws

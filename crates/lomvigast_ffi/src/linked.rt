@@ -1,12 +1,13 @@
 // The link-following reader: a ring of two words, lent to be moved.
-ghost use Rattle.std.specs.Prelude.{◌≡◌, ◌+◌, ◌*◌, ◌^◌, ◌<◌, [], ◌∷◌, slice_set};
+ghost use Rattle.std.specs.Prelude.{◌≡◌, ◌+◌, ◌*◌, ◌^◌, [], ◌∷◌, slice_set, Ok};
 ghost use Rattle.guest.specs.Memory.{window};
 ghost use Rattle.trb.specs.Trb.{bit};
-ghost use Rattle.linked_ring.specs.Chase.{ring_at, advanced, chase, number_of};
-ghost use Rattle.lomvigast_ffi.specs.Linked.{ring_of, ring_words, ring_after, kind_of, notes_word, flat_chase};
+ghost use Rattle.linked_ring.specs.Chase.{ring_at, advanced, chase};
+ghost use Rattle.lomvigast_ffi.specs.Linked.{ring_of, ring_words, ring_after, notes_word, flat_chase};
 
 use codes::trb_types;
-use linked_ring::{Answer, Chase, LinkedRing, Notes};
+use guest::{Slot, Window};
+use linked_ring::{Chase, Found, LinkedRing, Notes};
 
 // The place, and the cycle state as 0 or 1.
 pub type CLinkedRing = [u64; 2];
@@ -35,46 +36,39 @@ fn put(ring: &mut CLinkedRing, place: u64, cycle: u64)
     *ring = [place, cycle];
 }
 
-fn kind(answer: Answer) -> u64
-    ensures { result ≡ kind_of answer + number_of answer * 2 ^ 8 }
-{
-    match answer {
-        Answer::NothingNew => 0,
-        Answer::Trb => 1,
-        Answer::TooManyLinks => 2,
-        Answer::Refused(number) => 3 + (number as u64) * 0x100,
-    }
-}
-
-fn refusal(answer: Answer) -> u8
-    ensures { result ≡ number_of answer }
-{
-    match answer {
-        Answer::NothingNew => 0,
-        Answer::Trb => 0,
-        Answer::TooManyLinks => 0,
-        Answer::Refused(number) => number,
-    }
-}
-
 fn notes_word(n: Notes) -> u64
     ensures { result ≡ notes_word n }
 {
-    (n.links as u64) + words::bit(n.cleared) * 0x1_0000 + words::bit(n.completion) * 0x100_0000
+    (n.links as u64) + (n.cleared as u64) * 0x1_0000 + (n.completion as u64) * 0x100_0000
+}
+
+// A chase that came to no TRB.
+fn met(kind: u64, notes: u64) -> CChase
+    ensures { result ≡ record { kind = kind; address = 0; low = 0; high = 0; notes = notes } }
+{
+    CChase {
+        kind,
+        address: 0,
+        low: 0,
+        high: 0,
+        notes,
+    }
 }
 
 fn flat_chase(c: Chase) -> CChase
-    ensures { result ≡ flat_chase c }
+    ensures { result ≡ flat_chase (Ok c) }
 {
-    let answer = c.answer;
-    let trb = c.trb;
-    let notes = c.notes;
-    CChase {
-        kind: kind(answer),
-        address: c.address,
-        low: guest::low(trb),
-        high: guest::high(trb),
-        notes: notes_word(notes),
+    let notes = notes_word(c.notes);
+    match c.found {
+        Found::NothingNew => met(0, notes),
+        Found::TooManyLinks => met(2, notes),
+        Found::Trb(t) => CChase {
+            kind: 1,
+            address: t.address,
+            low: guest::low(t.buffer),
+            high: guest::high(t.buffer),
+            notes,
+        },
     }
 }
 
@@ -83,38 +77,24 @@ fn chase(start: u64, mem: &[u8], ring: &mut CLinkedRing) -> CChase
     ensures { (result ≡ flat_chase (chase (window start mem.now) (ring_of ring.old)))
         × (ring.new ≡ ring_after (chase (window start mem.now) (ring_of ring.old)) ring.old) }
 {
-    let entry = ring_of(ring);
-    let c = entry.next_trb(start, mem);
-    let answer = c.answer;
-    if refusal(answer) != 0 {
-        return flat_chase(c);
+    match ring_of(ring).next_trb(&Window::at(start, mem)) {
+        Ok(c) => {
+            put(ring, c.ring.place, c.ring.cycle as u64);
+            flat_chase(c)
+        }
+        Err(refusal) => met(3 + (refusal.number() as u64) * 0x100, 0),
     }
-    put(ring, c.ring.place, words::bit(c.ring.cycle));
-    flat_chase(c)
 }
 
-fn found(ring: &mut CLinkedRing, place: u64, cycle: u64, links: u64, low: u64, high: u64) -> CChase
-    ensures { (result ≡ record { kind = 1; address = place; low = low; high = high; notes = links }) × (ring.new ≡ place ∷ cycle ∷ []) }
+fn found(ring: &mut CLinkedRing, place: u64, cycle: u64, links: u64, slot: Slot) -> CChase
+    ensures { (result ≡ record { kind = 1; address = place; low = slot.low; high = slot.high; notes = links }) × (ring.new ≡ place ∷ cycle ∷ []) }
 {
     put(ring, place, cycle);
     CChase {
         kind: 1,
         address: place,
-        low,
-        high,
-        notes: links,
-    }
-}
-
-fn nothing_new(ring: &mut CLinkedRing, place: u64, cycle: u64, links: u64) -> CChase
-    ensures { (result ≡ record { kind = 0; address = 0; low = 0; high = 0; notes = links }) × (ring.new ≡ place ∷ cycle ∷ []) }
-{
-    put(ring, place, cycle);
-    CChase {
-        kind: 0,
-        address: 0,
-        low: 0,
-        high: 0,
+        low: slot.low,
+        high: slot.high,
         notes: links,
     }
 }
@@ -125,26 +105,25 @@ pub fn lomvigast_next_trb(start: u64, mem: &[u8], ring: &mut CLinkedRing) -> CCh
     ensures { (result ≡ flat_chase (chase (window start mem.now) (ring_of ring.old)))
         × (ring.new ≡ ring_after (chase (window start mem.now) (ring_of ring.old)) ring.old) }
 {
+    let window = Window::at(start, mem);
     let mut place = ring[0];
     let mut cycle = ring[1] % 2;
-    let mut links = 0u64;
-    while links < (LinkedRing::MOST_LINKS as u64) {
-        let slot = guest::read_next_slot(start, mem, place);
-        if slot.refusal != 0 {
+    for links in 0..u64::from(LinkedRing::MOST_LINKS) {
+        let Ok(slot) = window.read_next_slot(place) else {
             break;
-        }
+        };
         if slot.d3 % 2 != cycle {
-            return nothing_new(ring, place, cycle, links);
+            put(ring, place, cycle);
+            return met(0, links);
         }
         if slot.d3 / 0x400 % 0x40 != (trb_types::LINK as u64) {
-            return found(ring, place, cycle, links, slot.low, slot.high);
+            return found(ring, place, cycle, links, slot);
         }
         if !((slot.d3 / 0x20 % 2 == 0) & (slot.low % 16 == 0)) {
             break;
         }
         place = slot.low;
         cycle = (cycle + slot.d3 / 2 % 2) % 2;
-        links = links + 1;
     }
     chase(start, mem, ring)
 }
@@ -159,5 +138,5 @@ pub fn lomvigast_advance(ring: &mut CLinkedRing)
 pub fn lomvigast_set_place(ring: &mut CLinkedRing, place: u64, cycle: bool)
     ensures { ring.new ≡ ring_words (ring_at place cycle) }
 {
-    put(ring, place, words::bit(cycle))
+    put(ring, place, cycle as u64)
 }

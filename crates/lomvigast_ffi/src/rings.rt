@@ -5,8 +5,8 @@ ghost use Rattle.event_ring.specs.Ring.{empty, configured, reader_at, reader_con
 ghost use Rattle.words.specs.Events.{event_in};
 ghost use Rattle.lomvigast_ffi.specs.Rings.{words_of, fits, state_of, plain, stepped, ring_after, reader_after, added_from, memory_from, ring_from, take_number, put_taken, taken_from};
 
-use event_ring::{EventReader, EventRing, Take};
-use trb::event::EventVariant;
+use event_ring::{EventReader, EventRing};
+use guest::Window;
 
 // A word for each field, in this order. A new field is a word more: here, in specs/Rings.antt, in Rust's `State` and in
 // include/lomvigast.h.
@@ -65,8 +65,8 @@ fn put(ring: &mut CEventRing, s: EventRing)
         s.remaining as u64,
         s.index as u64,
         s.entries as u64,
-        words::bit(s.ready),
-        words::bit(s.cycle),
+        s.ready as u64,
+        s.cycle as u64,
     ];
 }
 
@@ -120,13 +120,13 @@ pub fn lomvigast_configure(
 ) -> u8
     ensures { (result ≡ (configured (window start mem.now) (state_of ring.old) table entries).refusal) × (ring.new ≡ ring_after (configured (window start mem.now) (state_of ring.old) table entries) ring.old) }
 {
-    let moved = EventRing::new().configure(start, mem, table, entries);
-    if moved.refusal != 0 {
-        return moved.refusal;
+    match EventRing::new().configure(&Window::at(start, mem), table, entries) {
+        Ok(after) => {
+            put(ring, after);
+            0
+        }
+        Err(refusal) => refusal.number(),
     }
-    let after = moved.ring;
-    put(ring, after);
-    0
 }
 
 pub fn lomvigast_configure_reader(
@@ -138,14 +138,13 @@ pub fn lomvigast_configure_reader(
 ) -> u8
     ensures { (result ≡ (reader_configured (window start mem.now) (reader_at (state_of reader.old)) table entries).refusal) × (reader.new ≡ reader_after (reader_configured (window start mem.now) (reader_at (state_of reader.old)) table entries) reader.old) }
 {
-    let state = EventRing::new();
-    let moved = EventReader { state }.configure(start, mem, table, entries);
-    if moved.refusal != 0 {
-        return moved.refusal;
+    match EventReader::new().configure(&Window::at(start, mem), table, entries) {
+        Ok(after) => {
+            put(reader, after.state);
+            0
+        }
+        Err(refusal) => refusal.number(),
     }
-    let after = moved.reader.state;
-    put(reader, after);
-    0
 }
 
 // The whole rule.
@@ -153,16 +152,16 @@ fn add(start: u64, mem: &mut [u8], ring: &mut CEventRing, event: &[u64; 3], repo
     ensures { (result ≡ (added_from (window start mem.old) (state_of ring.old) (event_in event.now) report).refusal) × (mem.new ≡ (memory_from (window start mem.old) (state_of ring.old) (event_in event.now) report).bytes) × (ring.new ≡ ring_from (window start mem.old) ring.old (event_in event.now) report) }
 {
     let given = words::event::given(event);
-    let EventVariant::Event(e) = given else {
+    let Ok(e) = given else {
         return words::event::number(given);
     };
-    let moved = state(ring).add(start, mem, e, report);
-    if moved.refusal != 0 {
-        return moved.refusal;
+    match state(ring).add(start, mem, e, report) {
+        Ok(after) => {
+            put(ring, after);
+            0
+        }
+        Err(refusal) => refusal.number(),
     }
-    let after = moved.ring;
-    put(ring, after);
-    0
 }
 
 // Adds an event, given the place up to which the reader has reported that it took events. The usual case, in which the ring goes on in
@@ -177,7 +176,7 @@ pub fn lomvigast_add(
     ensures { (result ≡ (added_from (window start mem.old) (state_of ring.old) (event_in event.now) report).refusal) × (mem.new ≡ (memory_from (window start mem.old) (state_of ring.old) (event_in event.now) report).bytes) × (ring.new ≡ ring_from (window start mem.old) ring.old (event_in event.now) report) }
 {
     let place = rounded(ring[PLACE]);
-    if !guest::inside(start, mem, place, 16) {
+    if !Window::at(start, mem).inside(place, 16) {
         return add(start, mem, ring, event, report);
     }
     if !(plain(ring) & (report % EventRing::SLOT_SIZE == 0)) {
@@ -191,7 +190,8 @@ pub fn lomvigast_add(
     if trb.high < 0x100 {
         return add(start, mem, ring, event, report);
     }
-    guest::write_trb(start, mem, place, guest::whole(trb.low, trb.high));
+    // Inside, as was tested.
+    let _ = guest::write_trb(start, mem, place, guest::whole(trb.low, trb.high));
     let remaining = ring[REMAINING] - 1;
     step(ring, next, remaining);
     0
@@ -201,19 +201,17 @@ pub fn lomvigast_add(
 fn take(start: u64, mem: &[u8], reader: &mut CEventRing, out: &mut [u64; 2]) -> u8
     ensures { (result ≡ take_number (take (window start mem.now) (reader_at (state_of reader.old))).answer) × (reader.new ≡ taken_from (take (window start mem.now) (reader_at (state_of reader.old))) reader.old) × (out.new ≡ put_taken (take (window start mem.now) (reader_at (state_of reader.old))) out.old) }
 {
-    let state = state(reader);
-    let taken = EventReader { state }.take(start, mem);
-    let answer = taken.answer;
-    match answer {
-        Take::Nothing => NOTHING,
-        Take::Refused(number) => number,
-        Take::Event => {
-            let after = taken.reader.state;
-            let trb = taken.trb;
-            put(reader, after);
-            *out = [guest::low(trb), guest::high(trb)];
+    let entry = EventReader {
+        state: state(reader),
+    };
+    match entry.take(&Window::at(start, mem)) {
+        Ok(Some(taken)) => {
+            put(reader, taken.reader.state);
+            *out = [guest::low(taken.trb), guest::high(taken.trb)];
             0
         }
+        Ok(None) => NOTHING,
+        Err(refusal) => refusal.number(),
     }
 }
 
@@ -223,10 +221,9 @@ pub fn lomvigast_take(start: u64, mem: &[u8], reader: &mut CEventRing, out: &mut
     ensures { (result ≡ take_number (take (window start mem.now) (reader_at (state_of reader.old))).answer) × (reader.new ≡ taken_from (take (window start mem.now) (reader_at (state_of reader.old))) reader.old) × (out.new ≡ put_taken (take (window start mem.now) (reader_at (state_of reader.old))) out.old) }
 {
     let place = rounded(reader[PLACE]);
-    let slot = guest::read_slot(start, mem, place);
-    if slot.refusal != 0 {
+    let Ok(slot) = Window::at(start, mem).read_slot(place) else {
         return take(start, mem, reader, out);
-    }
+    };
     if !plain(reader) {
         return take(start, mem, reader, out);
     }

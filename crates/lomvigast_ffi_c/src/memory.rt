@@ -2,7 +2,7 @@
 ghost use Rattle.std.specs.Prelude.{◌≡◌};
 ghost use Rattle.guest.specs.Memory.{window, inside};
 ghost use Rattle.guest.specs.Fields.{whole_of};
-ghost use Rattle.guest.specs.Answers.{number_at, trb_read, write_number, write_memory};
+ghost use Rattle.guest.specs.Answers.{number_at, trb_read, write_number, write_memory, number_of};
 ghost use Rattle.lomvigast_ffi.specs.Memory.{flat_number, put_trb};
 
 use lomvigast_ffi::memory;
@@ -38,7 +38,7 @@ pub extern "C" fn lomvigast_read8(start: u64, mem: &[u8], address: u64) -> CNumb
 
 #[unsafe(no_mangle)]
 pub extern "C" fn lomvigast_read_trb(start: u64, mem: &[u8], address: u64, out: &mut [u64; 2]) -> u8
-    ensures { (result ≡ (trb_read (window start mem.now) address).refusal) × (out.new ≡ put_trb (trb_read (window start mem.now) address) out.old) }
+    ensures { (result ≡ number_of (trb_read (window start mem.now) address)) × (out.new ≡ put_trb (trb_read (window start mem.now) address) out.old) }
 {
     memory::lomvigast_read_trb(start, mem, address, out)
 }

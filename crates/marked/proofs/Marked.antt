@@ -6,7 +6,7 @@ use Rattle.guest.specs.Memory.{Memory, window, inside, trb_at}
 use Rattle.guest.specs.Fields.{field, bytes_of}
 use Rattle.codes.specs.Codes.{number_of}
 use Rattle.codes.specs.declared.CompletionCode.{CompletionCode}
-use Rattle.trb.specs.Trb.{type_of, cycle_of}
+use Rattle.trb.specs.Trb.{type_of, cycle_of, unrecognized}
 use Rattle.trb.specs.Events.{event_dwords, valid, accepted, bytes_answered}
 use Rattle.trb.specs.Commands as commands
 use Rattle.trb.specs.Transfers as transfers
@@ -16,7 +16,7 @@ use Rattle.trb.specs.declared.link.LinkTrb.{LinkTrb}
 use Rattle.trb.specs.Links.{link_of}
 use Rattle.linked_ring.specs.Chase.{ring_at, ended, onward, chase}
 use Rattle.linked_ring.specs.declared.LinkedRing.{LinkedRing}
-use Rattle.linked_ring.specs.declared.Answer.{Answer}
+use Rattle.linked_ring.specs.declared.Found.{Found}
 use Rattle.linked_ring.proofs.Links.{Itself, notes_of, L1, L2}
 use Rattle.event_ring.specs.Ring.{empty, entry_at, good_entry, ok_state, next_index, next_tests, next_state, configured, added, added_memory}
 use Rattle.event_ring.specs.declared.EventRing.{EventRing}
@@ -61,8 +61,8 @@ link_to_start start bits = window start (bytes_of 8 start ++ (0 ∷ 0 ∷ 0 ∷ 
 -- the cases that have addresses, in a window that begins at b, with every address told from there
 pub record Rings (b : ℕ) : Type 0 where
   -- a fresh Link to itself
-  pub L1 : chase (link_to_start b 1) (ring_at b true) ≡ ended Answer.TooManyLinks (ring_at b true) (record { links = 256; cleared = false; completion = false })
-  pub L2 : chase (link_to_start b 3) (ring_at b true) ≡ ended Answer.NothingNew (ring_at b false) (record { links = 1; cleared = false; completion = false })
+  pub L1 : chase (link_to_start b 1) (ring_at b true) ≡ ended Found.TooManyLinks (ring_at b true) (record { links = 256; cleared = false; completion = false })
+  pub L2 : chase (link_to_start b 3) (ring_at b true) ≡ ended Found.NothingNew (ring_at b false) (record { links = 1; cleared = false; completion = false })
   -- one segment, base 0x100, size 2
   pub R1 :
       adding b (entry (b + 0x100) 2) 1 ((b + 0x100) ∷ (b + 0x100) ∷ (b + 0x110) ∷ (b + 0x110) ∷ (b + 0x100) ∷ [])
@@ -100,7 +100,7 @@ pub record Marked : Type 0 where
       })) true
       ≡ accepted (0x10 ∷ 0x20 ∷ 0 ∷ 0 ∷ 0 ∷ 0 ∷ 0 ∷ 0 ∷ 0x05 ∷ 0 ∷ 0 ∷ 0x0d ∷ 0x05 ∷ 0x80 ∷ 0x03 ∷ 0x02 ∷ [])
   -- type 11, the pointer's low four bits 0x08: refusal 11
-  pub P1 : (trb : List ℕ) → type_of trb ≡ 11 → field trb 0 0 4 ≡ 0x08 → commands.command_of trb ≡ commands.unrecognized 11 0 trb
+  pub P1 : (trb : List ℕ) → type_of trb ≡ 11 → field trb 0 0 4 ≡ 0x08 → commands.command_of trb ≡ unrecognized 11 0 trb
   -- type 16, byte 0 = 0x47, bytes 10 to 12 = 34 12 01: cycle 1, type 3, pointer 0x40, stream 0x1234
   pub P2 :
       commands.command_of (0x47 ∷ 0 ∷ 0 ∷ 0 ∷ 0 ∷ 0 ∷ 0 ∷ 0 ∷ 0 ∷ 0 ∷ 0x34 ∷ 0x12 ∷ 0x01 ∷ 0x40 ∷ 0 ∷ 0 ∷ [])
@@ -113,13 +113,13 @@ pub record Marked : Type 0 where
         slot_id = 0;
       }))
   -- type 6 in the transfer parser: refusal 10 with 6; type 18 as command: 9
-  pub P4_transfer : (trb : List ℕ) → type_of trb ≡ 6 → transfers.transfer_of trb ≡ transfers.unrecognized 10 6 trb
-  pub P4_command : (trb : List ℕ) → type_of trb ≡ 18 → commands.command_of trb ≡ commands.unrecognized 9 18 trb
+  pub P4_transfer : (trb : List ℕ) → type_of trb ≡ 6 → transfers.transfer_of trb ≡ unrecognized 10 6 trb
+  pub P4_command : (trb : List ℕ) → type_of trb ≡ 18 → commands.command_of trb ≡ unrecognized 9 18 trb
   -- a fresh Link to itself, at any memory: without toggle too many links, 256 followed; with toggle nothing new, one followed, state flipped
   pub L1 : (m : Memory) (r : LinkedRing) (l : LinkTrb) → Itself m r l → l.toggle_cycle ≡ false
-      → chase m r ≡ ended Answer.TooManyLinks r (notes_of 256 l)
+      → chase m r ≡ ended Found.TooManyLinks r (notes_of 256 l)
   pub L2 : (m : Memory) (r : LinkedRing) (l : LinkTrb) → Itself m r l → l.toggle_cycle ≡ true
-      → chase m r ≡ ended Answer.NothingNew (ring_at r.place (not r.cycle)) (notes_of 1 l)
+      → chase m r ≡ ended Found.NothingNew (ring_at r.place (not r.cycle)) (notes_of 1 l)
   -- and at the bytes of a window that begins at 0, as document 01 has them, and of one that begins at 2 ^ 64 - 0x200
   pub rings : Rings 0
   pub moved : Rings 0xffff_ffff_ffff_fe00

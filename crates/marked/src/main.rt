@@ -4,7 +4,9 @@
 
 use codes::CompletionCode;
 use event_ring::EventRing;
-use linked_ring::{Answer, LinkedRing};
+use guest::Window;
+use guest::refusal::Refusal;
+use linked_ring::{Found, LinkedRing};
 use std::io;
 use trb::command::CommandTrbVariant;
 use trb::event::{
@@ -16,43 +18,49 @@ use trb::{RawTrbBuffer, TrbParseError};
 // The cases that have addresses are run twice, the second time with all of them moved up by so much.
 const MOVED: u64 = 0xffff_ffff_ffff_fe00;
 
-// An event's bytes, two hexadecimal digits each.
+// An event's bytes, two hexadecimal digits each; sixteen 0s beside a refusal.
 fn event(rt: &impl Print, name: &str, event: EventTrb, cycle_bit: bool) -> io::Result<()> {
     let written = event.to_bytes(cycle_bit);
-    let trb = written.trb;
-    print!(rt; "{name} refusal {}:", written.refusal)?;
-    for b in trb {
+    print!(rt; "{name} refusal {}:", refusal(written))?;
+    for b in written.unwrap_or([0u8; 16]) {
         print!(rt; " {b:02x}")?;
     }
     println!(rt)
 }
 
-fn refusal(rt: &impl Print, name: &str, e: TrbParseError) -> io::Result<()> {
-    println!(rt; "{name} refusal {} with type {}", e.number, e.trb_type)
+// The number of what refuses, 0 for none.
+fn refusal<T: Drop>(answer: Result<T, Refusal>) -> u8 {
+    match answer {
+        Ok(_) => 0,
+        Err(refusal) => refusal.number(),
+    }
+}
+
+fn unrecognized(rt: &impl Print, name: &str, error: TrbParseError) -> io::Result<()> {
+    println!(rt;
+        "{name} refusal {} with type {}",
+        error.refusal.number(),
+        error.trb_type
+    )
 }
 
 fn command(rt: &impl Print, name: &str, raw: RawTrbBuffer) -> io::Result<()> {
-    let parsed = CommandTrbVariant::parse(raw);
-    let variant = parsed.variant;
-    match variant {
-        CommandTrbVariant::Unrecognized(e) => refusal(rt, name, e),
-        CommandTrbVariant::SetTrDequeuePointer(d) => {
+    match CommandTrbVariant::parse(raw) {
+        Err(u) => unrecognized(rt, name, u.error),
+        Ok(CommandTrbVariant::SetTrDequeuePointer(d)) => {
             let cycle = d.dequeue_cycle_state as u8;
             print!(rt; "{name} cycle {cycle}, type {}", d.stream_context_type)?;
             print!(rt; ", pointer {:#x}", d.dequeue_pointer)?;
             println!(rt; ", stream {:#x}", d.stream_id)
         }
-        _ => println!(rt; "another command"),
+        Ok(_) => println!(rt; "another command"),
     }
 }
 
 fn transfer(rt: &impl Print, name: &str, raw: RawTrbBuffer) -> io::Result<()> {
-    let parsed = TransferTrbVariant::parse(raw);
-    let variant = parsed.variant;
-    if let TransferTrbVariant::Unrecognized(e) = variant {
-        refusal(rt, name, e)
-    } else {
-        println!(rt; "a transfer TRB")
+    match TransferTrbVariant::parse(raw) {
+        Err(u) => unrecognized(rt, name, u.error),
+        Ok(_) => println!(rt; "a transfer TRB"),
     }
 }
 
@@ -103,22 +111,20 @@ fn at(start: u64, offset: u64) -> u64 {
 
 // A Link at the window's start that points to itself, fresh to a reader with state 1, by the eight bytes behind its pointer.
 fn chase(rt: &impl Print, name: &str, start: u64, high: u64) -> io::Result<()> {
-    let mut mem = [0u8; 16];
-    let link = guest::whole(start, high);
-    guest::write_trb(start, &mut mem, start, link);
-    let chase = LinkedRing::new(start, true).next_trb(start, &mem);
-    let answer = chase.answer;
+    let mem = guest::whole(start, high);
     print!(rt; "{name}")?;
-    match answer {
-        Answer::Trb => print!(rt; " a TRB")?,
-        Answer::NothingNew => print!(rt; " nothing new")?,
-        Answer::TooManyLinks => print!(rt; " too many links")?,
-        Answer::Refused(n) => print!(rt; " refusal {n}")?,
+    match LinkedRing::new(start, true).next_trb(&Window::at(start, &mem)) {
+        Err(refusal) => println!(rt; " refusal {}", refusal.number()),
+        Ok(chase) => {
+            match chase.found {
+                Found::Trb(_) => print!(rt; " a TRB")?,
+                Found::NothingNew => print!(rt; " nothing new")?,
+                Found::TooManyLinks => print!(rt; " too many links")?,
+            }
+            let cycle = chase.ring.cycle as u8;
+            println!(rt; ", followed {}, state {cycle}", chase.notes.links)
+        }
     }
-    let notes = chase.notes;
-    let ring = chase.ring;
-    let cycle = ring.cycle as u8;
-    println!(rt; ", followed {}, state {cycle}", notes.links)
 }
 
 // Adds a port's event to the ring and writes what came of it; where it was accepted, what cycle bit stands in the slot.
@@ -132,216 +138,173 @@ fn add(
 ) -> io::Result<EventRing> {
     let change = PortStatusChangeEventTrbData { port_id: 3 };
     let report = at(start, offset);
-    let moved = ring.add(start, mem, EventTrb::PortStatusChange(change), report);
     print!(rt; "{name} report {report:#x}")?;
-    if moved.refusal != 0 {
-        println!(rt; ": refusal {}", moved.refusal)?;
-    } else {
-        let slot = guest::read_trb(start, mem, ring.place);
-        let trb = slot.trb;
-        let cycle = trb::cycle_bit(trb) as u8;
-        println!(rt; ": accepted at {:#x} with cycle {cycle}", ring.place)?;
+    match ring.add(start, mem, EventTrb::PortStatusChange(change), report) {
+        Err(refusal) => {
+            println!(rt; ": refusal {}", refusal.number())?;
+            Ok(ring)
+        }
+        Ok(after) => {
+            let slot = Window::at(start, mem)
+                .read_trb(ring.place)
+                .unwrap_or([0u8; 16]);
+            let cycle = trb::cycle_bit(slot) as u8;
+            println!(rt; ": accepted at {:#x} with cycle {cycle}", ring.place)?;
+            Ok(after)
+        }
     }
-    Ok(moved.ring)
 }
 
-// An entry of the table: the segment's base and its slots.
-fn entry(start: u64, mem: &mut [u8], offset: u64, base: u64, slots: u64) {
-    let e = guest::whole(at(start, base), slots);
-    guest::write_trb(start, mem, at(start, offset), e);
+// A segment of a table: its base and its slots.
+#[derive(Clone, Copy)]
+struct Segment {
+    base: u64,
+    slots: u64,
 }
 
-fn configured(start: u64, mem: &[u8], entries: u16) -> EventRing {
-    let moved = EventRing::new().configure(start, mem, start, entries);
-    moved.ring
-}
-
-// One segment of two slots at 0x100.
-fn r1(rt: &impl Print, name: &str, start: u64) -> io::Result<()> {
-    let mut mem = [0u8; 0x120];
-    entry(start, &mut mem, 0, 0x100, 2);
-    let mut ring = configured(start, &mem, 1);
-    ring = add(rt, name, start, &mut mem, ring, 0x100)?;
-    ring = add(rt, name, start, &mut mem, ring, 0x100)?;
-    ring = add(rt, name, start, &mut mem, ring, 0x110)?;
-    ring = add(rt, name, start, &mut mem, ring, 0x110)?;
-    add(rt, name, start, &mut mem, ring, 0x100)?;
-    Ok(())
-}
-
-// One segment of one slot at 0x100.
-fn r2(rt: &impl Print, name: &str, start: u64) -> io::Result<()> {
-    let mut mem = [0u8; 0x120];
-    entry(start, &mut mem, 0, 0x100, 1);
-    let mut ring = configured(start, &mem, 1);
-    ring = add(rt, name, start, &mut mem, ring, 0x100)?;
-    add(rt, name, start, &mut mem, ring, 0x100)?;
-    Ok(())
-}
-
-// Two segments of one slot each, at 0x100 and 0x140.
-fn r3(rt: &impl Print, name: &str, start: u64) -> io::Result<()> {
+// Configures a ring on the segments, whose table is at the window's start, and adds an event for each report.
+fn adds(
+    rt: &impl Print,
+    name: &str,
+    start: u64,
+    segments: &[Segment],
+    reports: &[u64],
+) -> io::Result<()> {
     let mut mem = [0u8; 0x150];
-    entry(start, &mut mem, 0, 0x100, 1);
-    entry(start, &mut mem, 16, 0x140, 1);
-    let mut ring = configured(start, &mem, 2);
-    ring = add(rt, name, start, &mut mem, ring, 0x100)?;
-    ring = add(rt, name, start, &mut mem, ring, 0x100)?;
-    ring = add(rt, name, start, &mut mem, ring, 0x140)?;
-    add(rt, name, start, &mut mem, ring, 0x140)?;
+    for (segment, entry) in segments.iter().zip(mem.chunks_exact_mut(16)) {
+        entry.copy_from_slice(&guest::whole(at(start, segment.base), segment.slots));
+    }
+    let entries = u16::try_from(segments.len()).unwrap_or(0);
+    let mut ring = EventRing::new()
+        .configure(&Window::at(start, &mem), start, entries)
+        .unwrap_or(EventRing::new());
+    for report in reports {
+        ring = add(rt, name, start, &mut mem, ring, *report)?;
+    }
     Ok(())
 }
 
-// The number that a code has in the core, behind its name in xHCI.
-fn code(rt: &impl Print, name: &str, code: CompletionCode) -> io::Result<()> {
-    println!(rt; "{name} {}", code.number())
+// The cases that have addresses, in a window that begins at `start`.
+fn windowed(rt: &impl Print, names: [&str; 5], start: u64) -> io::Result<()> {
+    let [l1, l2, r1, r2, r3] = names;
+    chase(rt, l1, start, 0x1801_0000_0000)?;
+    chase(rt, l2, start, 0x1803_0000_0000)?;
+    let two = Segment {
+        base: 0x100,
+        slots: 2,
+    };
+    let one = Segment {
+        base: 0x100,
+        slots: 1,
+    };
+    let other = Segment {
+        base: 0x140,
+        slots: 1,
+    };
+    adds(rt, r1, start, &[two], &[0x100, 0x100, 0x110, 0x110, 0x100])?;
+    adds(rt, r2, start, &[one], &[0x100, 0x100])?;
+    adds(rt, r3, start, &[one, other], &[0x100, 0x100, 0x140, 0x140])
 }
 
-// The codes of xHCI 1.2 table 6-90 in its order, nine at a time. Into the exports and into Rust go numbers alone, so it is here that
+// The codes of xHCI 1.2 table 6-90 in its order, by their names there. Into the exports and into Rust go numbers alone, so it is here that
 // names whose numbers are exchanged show.
-fn first_codes(rt: &impl Print) -> io::Result<()> {
-    code(rt, "Invalid", CompletionCode::Invalid)?;
-    code(rt, "Success", CompletionCode::Success)?;
-    code(rt, "Data Buffer Error", CompletionCode::DataBufferError)?;
-    code(
-        rt,
-        "Babble Detected Error",
-        CompletionCode::BabbleDetectedError,
-    )?;
-    code(
-        rt,
-        "USB Transaction Error",
-        CompletionCode::UsbTransactionError,
-    )?;
-    code(rt, "TRB Error", CompletionCode::TrbError)?;
-    code(rt, "Stall Error", CompletionCode::StallError)?;
-    code(rt, "Resource Error", CompletionCode::ResourceError)?;
-    code(rt, "Bandwidth Error", CompletionCode::BandwidthError)
-}
-
-fn second_codes(rt: &impl Print) -> io::Result<()> {
-    code(
-        rt,
+const CODES: [(&str, CompletionCode); 36] = [
+    ("Invalid", CompletionCode::Invalid),
+    ("Success", CompletionCode::Success),
+    ("Data Buffer Error", CompletionCode::DataBufferError),
+    ("Babble Detected Error", CompletionCode::BabbleDetectedError),
+    ("USB Transaction Error", CompletionCode::UsbTransactionError),
+    ("TRB Error", CompletionCode::TrbError),
+    ("Stall Error", CompletionCode::StallError),
+    ("Resource Error", CompletionCode::ResourceError),
+    ("Bandwidth Error", CompletionCode::BandwidthError),
+    (
         "No Slots Available Error",
         CompletionCode::NoSlotsAvailableError,
-    )?;
-    code(
-        rt,
+    ),
+    (
         "Invalid Stream Type Error",
         CompletionCode::InvalidStreamTypeError,
-    )?;
-    code(
-        rt,
+    ),
+    (
         "Slot Not Enabled Error",
         CompletionCode::SlotNotEnabledError,
-    )?;
-    code(
-        rt,
+    ),
+    (
         "Endpoint Not Enabled Error",
         CompletionCode::EndpointNotEnabledError,
-    )?;
-    code(rt, "Short Packet", CompletionCode::ShortPacket)?;
-    code(rt, "Ring Underrun", CompletionCode::RingUnderrun)?;
-    code(rt, "Ring Overrun", CompletionCode::RingOverrun)?;
-    code(
-        rt,
+    ),
+    ("Short Packet", CompletionCode::ShortPacket),
+    ("Ring Underrun", CompletionCode::RingUnderrun),
+    ("Ring Overrun", CompletionCode::RingOverrun),
+    (
         "VF Event Ring Full Error",
         CompletionCode::VfEventRingFullError,
-    )?;
-    code(rt, "Parameter Error", CompletionCode::ParameterError)
-}
-
-fn third_codes(rt: &impl Print) -> io::Result<()> {
-    code(
-        rt,
+    ),
+    ("Parameter Error", CompletionCode::ParameterError),
+    (
         "Bandwidth Overrun Error",
         CompletionCode::BandwidthOverrunError,
-    )?;
-    code(rt, "Context State Error", CompletionCode::ContextStateError)?;
-    code(
-        rt,
+    ),
+    ("Context State Error", CompletionCode::ContextStateError),
+    (
         "No Ping Response Error",
         CompletionCode::NoPingResponseError,
-    )?;
-    code(
-        rt,
-        "Event Ring Full Error",
-        CompletionCode::EventRingFullError,
-    )?;
-    code(
-        rt,
+    ),
+    ("Event Ring Full Error", CompletionCode::EventRingFullError),
+    (
         "Incompatible Device Error",
         CompletionCode::IncompatibleDeviceError,
-    )?;
-    code(
-        rt,
-        "Missed Service Error",
-        CompletionCode::MissedServiceError,
-    )?;
-    code(
-        rt,
-        "Command Ring Stopped",
-        CompletionCode::CommandRingStopped,
-    )?;
-    code(rt, "Command Aborted", CompletionCode::CommandAborted)?;
-    code(rt, "Stopped", CompletionCode::Stopped)
-}
-
-fn last_codes(rt: &impl Print) -> io::Result<()> {
-    code(
-        rt,
+    ),
+    ("Missed Service Error", CompletionCode::MissedServiceError),
+    ("Command Ring Stopped", CompletionCode::CommandRingStopped),
+    ("Command Aborted", CompletionCode::CommandAborted),
+    ("Stopped", CompletionCode::Stopped),
+    (
         "Stopped - Length Invalid",
         CompletionCode::StoppedLengthInvalid,
-    )?;
-    code(
-        rt,
+    ),
+    (
         "Stopped - Short Packet",
         CompletionCode::StoppedShortedPacket,
-    )?;
-    code(
-        rt,
+    ),
+    (
         "Max Exit Latency Too Large Error",
         CompletionCode::MaxExitLatencyTooLargeError,
-    )?;
-    code(
-        rt,
-        "Isoch Buffer Overrun",
-        CompletionCode::IsochBufferOverrun,
-    )?;
-    code(rt, "Event Lost Error", CompletionCode::EventLostError)?;
-    code(rt, "Undefined Error", CompletionCode::UndefinedError)?;
-    code(
-        rt,
+    ),
+    ("Isoch Buffer Overrun", CompletionCode::IsochBufferOverrun),
+    ("Event Lost Error", CompletionCode::EventLostError),
+    ("Undefined Error", CompletionCode::UndefinedError),
+    (
         "Invalid Stream ID Error",
         CompletionCode::InvalidStreamIdError,
-    )?;
-    code(
-        rt,
+    ),
+    (
         "Secondary Bandwidth Error",
         CompletionCode::SecondaryBandwidthError,
-    )?;
-    code(
-        rt,
+    ),
+    (
         "Split Transaction Error",
         CompletionCode::SplitTransactionError,
-    )
+    ),
+];
+
+// The number that each code has in the core, behind its name in xHCI.
+fn codes(rt: &impl Print) -> io::Result<()> {
+    for (name, code) in CODES {
+        println!(rt; "{name} {}", code.number())?;
+    }
+    Ok(())
 }
 
 fn main(rt: HostRuntime) -> io::Result<()> {
     events(&rt)?;
     parsers(&rt)?;
-    chase(&rt, "L1", 0, 0x1801_0000_0000)?;
-    chase(&rt, "L2", 0, 0x1803_0000_0000)?;
-    r1(&rt, "R1", 0)?;
-    r2(&rt, "R2", 0)?;
-    r3(&rt, "R3", 0)?;
-    chase(&rt, "L1 moved", MOVED, 0x1801_0000_0000)?;
-    chase(&rt, "L2 moved", MOVED, 0x1803_0000_0000)?;
-    r1(&rt, "R1 moved", MOVED)?;
-    r2(&rt, "R2 moved", MOVED)?;
-    r3(&rt, "R3 moved", MOVED)?;
-    first_codes(&rt)?;
-    second_codes(&rt)?;
-    third_codes(&rt)?;
-    last_codes(&rt)
+    windowed(&rt, ["L1", "L2", "R1", "R2", "R3"], 0)?;
+    windowed(
+        &rt,
+        ["L1 moved", "L2 moved", "R1 moved", "R2 moved", "R3 moved"],
+        MOVED,
+    )?;
+    codes(&rt)
 }

@@ -1,5 +1,5 @@
 -- The chase from here, of a ring that came over so many links and noted nothing else, is the whole chase.
-use Rattle.std.proofs.Common.{◌≡◌, ◌<◌, ◌≤◌, ◌-◌}
+use Rattle.std.proofs.Common.{◌≡◌, ◌<◌, ◌≤◌}
 use Rattle.guest.specs.Memory.{window}
 use Rattle.linked_ring.specs.Chase.{chase}
 use Rattle.lomvigast_ffi.specs.Linked.{ring_of}
@@ -9,7 +9,4 @@ use Rattle.lomvigast_ffi.proofs.linked.lomvigast_next_trb.Given as goal
 abbrev pub invariant-loop-links : goal.invariant-loop-links
 invariant-loop-links l =
     (l.cycle < 2) × (l.links ≤ 256) × (l.ring ≡ l.initial.ring)
-    × (from (window l.start l.mem) (ring_of l.initial.ring) l.place l.cycle l.links ≡ chase (window l.start l.mem) (ring_of l.initial.ring))
-
-abbrev pub decreases-loop-links : goal.decreases-loop-links
-decreases-loop-links l = 256 - l.links
+    × (from (window l.start l.mem) l.place l.cycle l.links ≡ chase (window l.start l.mem) (ring_of l.initial.ring))

@@ -22,7 +22,7 @@ returns c =
     let ws = c.args.ring.now in
     let t = tested ws _ c.args.report c.plain.ensures c.if-not-plain-report.false in
     let p = rounded ws t.0 _ c.rounded-place.ensures in
-    let within : inside m (get_or ws 1 0) 16 ≡ true = rw p at (told c.inside.ensures c.if-not-inside.false) in
+    let within : inside m (get_or ws 1 0) 16 ≡ true = rw (c.at.ensures, p) at (told c.inside.ensures c.if-not-inside.false) in
     let next : (c.rounded-place.result + 16) % 2 ^ 64 ≡ (get_or ws 1 0 + 16) % 2 ^ 64 = ap (λ (x : ℕ). (x + 16) % 2 ^ 64) p in
     let q = usual_add m ws t.0 within c.args.event.now c.args.report t.1 (λ z. c.if-next-report.false (next ∙ z))
     c.bytes-trb.result c.bytes-trb.ensures c.if-trb-lt256.false
