@@ -1,6 +1,6 @@
 -- What the ring's limits and answers say, as the proofs of the functions use it. Assumes nothing.
 use Prim.{tt}
-use Rattle.std.proofs.Common.{◌≡◌, ℕ, ◌+◌, ◌-◌, ◌*◌, ◌%◌, ◌^◌, ◌<◌, ◌≤◌, Bool, true, false, cond, not, ◌&&◌, eqb, ltb, leb, List, [], ◌∷◌, ◌++◌, sym, refl, ap, ◌∙◌, ap₂, add-zero, arith, lit<, ltb-true, eqb-true, leb-true}
+use Rattle.std.proofs.Common.{◌≡◌, ℕ, ◌+◌, ◌*◌, ◌%◌, ◌<◌, ◌≤◌, Bool, true, false, cond, not, ◌&&◌, eqb, ltb, leb, List, [], ◌∷◌, ◌++◌, sym, refl, ap, ◌∙◌, ap₂, add-zero, arith, lit<, ltb-true, eqb-true, leb-true}
 use mathlib.Core.Bool.{beq}
 use Rattle.std.specs.Prelude.{Result, Ok, Err}
 use Rattle.guest.specs.Judge.{Tests, judge}
@@ -18,7 +18,7 @@ use Rattle.guest.proofs.Memory.{le_part}
 use Rattle.guest.proofs.Numbers.{as_result_ok, as_result_err, as_result_some}
 use Rattle.event_ring.specs.Ring.{entry_of_bytes, entry_at, read_tests, count_ok, ok_state, last, entry_tests, next_tests, next_state, refused_at, moved_to, next, configure_tests, started, configured, step_tests, add_tests, add_step, added, added_memory}
 use Rattle.event_ring.specs.Answers.{Moved, moved}
-use Rattle.trb.specs.Events.{valid, event_tests, event_bytes, bytes_answered}
+use Rattle.trb.specs.Events.{event_tests, event_bytes, bytes_answered}
 use Rattle.trb.specs.declared.event.EventTrb.{EventTrb}
 use Rattle.event_ring.specs.declared.EventRing.{EventRing}
 

@@ -5,8 +5,9 @@
 // writes events with its cycle bit; a slot is fresh to the reader if its cycle bit is the reader's.
 #![tactic(auto)]
 
-ghost use Rattle.std.specs.Prelude.{◌≡◌, ◌<◌, ◌≤◌, true};
+ghost use Rattle.std.specs.Prelude.{◌≡◌, true, false, MatchResult};
 ghost use Rattle.guest.specs.Memory.{window};
+ghost use Rattle.guest.specs.declared.refusal.Refusal.TheVariants.{State};
 ghost use Rattle.event_ring.specs.Answers.{moved, reader_moved, taken_as};
 ghost use Rattle.event_ring.specs.Ring.{entry_of_bytes, good_entry, entry_read, empty, count_ok, ok_state, next_index, entered, along, enter_next, next, configured, add_step, added, added_memory, reader_at, reader_configured, take};
 
@@ -22,7 +23,7 @@ pub struct Entry {
     pub size: u32,
 }
 
-// `ready` is a field, with no Option around the others: `never_configured` (proofs/Faults.antt) and C's words speak of all seven.
+// `ready` stands beside the others, and no Option around them: `never_configured` (proofs/Faults.antt) and C's words have it so.
 #[derive(Clone, Copy)]
 pub struct EventRing {
     pub ready: bool,
@@ -32,6 +33,13 @@ pub struct EventRing {
     pub place: u64,
     pub remaining: u32,
     pub cycle: bool,
+}
+
+// A ring whose state was found to keep its own limits.
+#[derive(Clone, Copy)]
+struct Checked {
+    ring: EventRing,
+    ghost limits: { ok_state ring ≡ true },
 }
 
 // The reader's state is of the same kind.
@@ -67,6 +75,8 @@ impl From<[u8; 16]> for Entry {
 impl Entry {
     const BYTES: u64 = 16;
 
+    // Whether it is as refusal 5 asks.
+    #[tactic(auto, unfolding(crate::specs::Ring::good_entry))]
     fn good(self, mem: &Window<'_>) -> bool
         ensures { result ≡ good_entry mem.now self }
     {
@@ -76,6 +86,7 @@ impl Entry {
             & mem.inside(self.base, EventRing::SLOT_SIZE * u64::from(self.size))
     }
 
+    // The entry at an address, or what refuses it.
     fn read(mem: &Window<'_>, address: u64) -> Result<Entry, Refusal>
         ensures { result ≡ entry_read mem.now address }
     {
@@ -117,6 +128,7 @@ impl EventRing {
     }
 
     // Whether the state keeps its own limits.
+    #[tactic(auto, unfolding(crate::specs::Ring::ok_state))]
     fn ok(self) -> bool
         ensures { result ≡ ok_state self }
     {
@@ -129,15 +141,14 @@ impl EventRing {
             & (self.place % EventRing::SLOT_SIZE == 0)
     }
 
-    // The entry after the present one.
-    fn next_index(self) -> u16
-        requires { self.index < 65535 }
-        ensures { result ≡ next_index self }
+    // The ring as one that does, or refusal 4.
+    fn checked(self) -> Result<Checked, Refusal>
+        ensures { MatchResult result (λ s. (s.ring ≡ self) × (ok_state self ≡ true)) (λ r. (r ≡ State) × (ok_state self ≡ false)) }
     {
-        if self.index + 1 == self.entries {
-            return 0;
+        if !self.ok() {
+            return Err(Refusal::State);
         }
-        self.index + 1
+        Ok(Checked { ring: self })
     }
 
     // The ring at the start of entry `index`, which is `e`.
@@ -153,41 +164,7 @@ impl EventRing {
         }
     }
 
-    // The ring one slot on in its segment, modulo 2^64.
-    fn step(self) -> Self
-        requires { 1 ≤ self.remaining }
-        ensures { result ≡ along self }
-    {
-        EventRing {
-            place: self.place.wrapping_add(EventRing::SLOT_SIZE),
-            remaining: self.remaining - 1,
-            ..self
-        }
-    }
-
-    // The ring in the next entry, or what refuses that entry.
-    fn enter_next(self, mem: &Window<'_>) -> Result<EventRing, Refusal>
-        requires { ok_state self ≡ true }
-        ensures { result ≡ moved (enter_next mem.now self) }
-    {
-        let index = self.next_index();
-        let past = Entry::BYTES * u64::from(index);
-        let entry = self.table.checked_add(past).ok_or(Refusal::Outside)?;
-        let e = Entry::read(mem, entry)?;
-        Ok(self.enter(index, e))
-    }
-
-    // The ring on the slot after the present one, or what refuses that.
-    fn next(self, mem: &Window<'_>) -> Result<EventRing, Refusal>
-        requires { ok_state self ≡ true }
-        ensures { result ≡ moved (next mem.now self) }
-    {
-        if self.remaining == 1 {
-            return self.enter_next(mem);
-        }
-        Ok(self.step())
-    }
-
+    // Whatever the ring's state was. `table` and `entries` come as two numbers, as document 01 and C have them.
     pub fn configure(self, mem: &Window<'_>, table: u64, entries: u16) -> Result<EventRing, Refusal>
         ensures { result ≡ moved (configured mem.now self table entries) }
     {
@@ -216,31 +193,82 @@ impl EventRing {
     fn add_step(self, mem: &Window<'_>, report: u64) -> Result<EventRing, Refusal>
         ensures { result ≡ moved (add_step mem.now self report) }
     {
-        if !self.ok() {
-            return Err(Refusal::State);
-        }
+        let ring = self.checked()?;
         if report % EventRing::SLOT_SIZE != 0 {
             return Err(Refusal::Report);
         }
         if !mem.inside(self.place, EventRing::SLOT_SIZE) {
             return Err(Refusal::Outside);
         }
-        let next = self.next(mem)?;
+        let next = ring.next(mem)?;
         if next.place == report {
             return Err(Refusal::Full);
         }
         Ok(next)
     }
 
-    // Adds an event, given the place up to which the reader has reported that it took events. What is written is the slice itself,
-    // and no window.
-    pub fn add(self, start: u64, mem: &mut [u8], event: EventTrb, report: u64) -> Result<EventRing, Refusal>
+    // Adds an event, given the place up to which the reader has reported that it took events: two inputs of this one operation, no
+    // parts of one thing. It takes the slice and no window, since the bytes at exit are promised.
+    pub fn add(
+        self,
+        start: u64,
+        mem: &mut [u8],
+        event: EventTrb,
+        report: u64,
+    ) -> Result<EventRing, Refusal>
         ensures { (result ≡ moved (added (window start mem.old) self event report)) × (mem.new ≡ (added_memory (window start mem.old) self event report).bytes) }
     {
         let trb = event.to_bytes(self.cycle)?;
         let step = self.add_step(&Window::at(start, mem), report)?;
         guest::write_trb(start, mem, self.place, trb)?;
         Ok(step)
+    }
+}
+
+impl Checked {
+    // The entry after the present one.
+    #[tactic(auto, unfolding(crate::specs::Ring::next_index))]
+    fn next_index(self) -> u16
+        ensures { result ≡ next_index self.ring }
+    {
+        let ring = self.ring;
+        if ring.index + 1 == ring.entries {
+            return 0;
+        }
+        ring.index + 1
+    }
+
+    // The ring one slot on in its segment, modulo 2^64.
+    fn step(self) -> EventRing
+        ensures { result ≡ along self.ring }
+    {
+        let ring = self.ring;
+        EventRing {
+            place: ring.place.wrapping_add(EventRing::SLOT_SIZE),
+            remaining: ring.remaining - 1,
+            ..ring
+        }
+    }
+
+    // The ring in the next entry, or what refuses that entry.
+    fn enter_next(self, mem: &Window<'_>) -> Result<EventRing, Refusal>
+        ensures { result ≡ moved (enter_next mem.now self.ring) }
+    {
+        let index = self.next_index();
+        let past = Entry::BYTES * u64::from(index);
+        let entry = self.ring.table.checked_add(past).ok_or(Refusal::Outside)?;
+        let e = Entry::read(mem, entry)?;
+        Ok(self.ring.enter(index, e))
+    }
+
+    // The ring on the slot after the present one, or what refuses that.
+    fn next(self, mem: &Window<'_>) -> Result<EventRing, Refusal>
+        ensures { result ≡ moved (next mem.now self.ring) }
+    {
+        if self.ring.remaining == 1 {
+            return self.enter_next(mem);
+        }
+        Ok(self.step())
     }
 }
 
@@ -260,7 +288,13 @@ impl EventReader {
         EventReader::new()
     }
 
-    pub fn configure(self, mem: &Window<'_>, table: u64, entries: u16) -> Result<EventReader, Refusal>
+    #[tactic(auto, unfolding(crate::specs::Ring::reader_configured))]
+    pub fn configure(
+        self,
+        mem: &Window<'_>,
+        table: u64,
+        entries: u16,
+    ) -> Result<EventReader, Refusal>
         ensures { result ≡ reader_moved (reader_configured mem.now self table entries) }
     {
         let state = self.state.configure(mem, table, entries)?;
@@ -271,14 +305,12 @@ impl EventReader {
     pub fn take(self, mem: &Window<'_>) -> Result<Option<Taken>, Refusal>
         ensures { result ≡ taken_as (take mem.now self) }
     {
-        if !self.state.ok() {
-            return Err(Refusal::State);
-        }
+        let ring = self.state.checked()?;
         let trb = mem.read_trb(self.state.place)?;
         if trb::cycle_bit(trb) != self.state.cycle {
             return Ok(None);
         }
-        let state = self.state.next(mem)?;
+        let state = ring.next(mem)?;
         Ok(Some(Taken {
             trb,
             reader: EventReader { state },

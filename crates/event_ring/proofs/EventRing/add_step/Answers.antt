@@ -1,6 +1,6 @@
 -- By the tests in their order; those of the next slot are what `next` answered by.
 use Rattle.std.proofs.Common.{◌≡◌, ℕ, ◌%◌, true, not, eqb, [], ◌∷◌, sym, ap, ◌∙◌, eq-eqb, ne_eqb}
-use Rattle.std.proofs.lemmas.Result.{err_from_is_err_and}
+use Rattle.std.proofs.lemmas.Result.{MatchResult-at_ok, MatchResult-at_err, err_from_is_err_and}
 use Rattle.std.specs.Prelude.{Ok, Err}
 use Rattle.guest.specs.Judge.{judge}
 use Rattle.guest.specs.Memory.{Memory, inside}
@@ -30,40 +30,52 @@ module _ (m : Memory) (s : EventRing) (report : ℕ) (ok : ok_state s ≡ true) 
       (judge_then (next_tests m s) ((7, not (full m s report)) ∷ []) (refused_at s) (moved_to (next_state m s)) p.0
       ∙ ap (λ (x : EventRing). judge ((7, not (eqb x.place report)) ∷ []) (refused_at s) (moved_to x)) (sym p.1))
 
-pub returns-then-not-ok : goal.returns-then-not-ok
+pub returns-in_err-ring : goal.returns-in_err-ring
 unfolding add_step judge by_number
-returns-then-not-ok c = rw (told c.ok.ensures c.if-not-ok.true)
+returns-in_err-ring c =
+    let p = err_from_is_err_and c.from_residual.result c.from_residual.ensures.1 in
+    let q = MatchResult-at_err _ _ _ c.in_err-ring.was c.checked.ensures in
+    rw (p.1, p.2, q.0, q.1)
 
 pub returns-then-report-ne0 : goal.returns-then-report-ne0
 unfolding add_step judge by_number
-returns-then-report-ne0 c = rw (told c.ok.ensures c.if-not-ok.false, ne_eqb _ _ c.if-report-ne0.true)
+returns-then-report-ne0 c =
+    let kept = MatchResult-at_ok _ _ _ c.in_ok-ring.was c.checked.ensures in
+    rw (kept.1, ne_eqb _ _ c.if-report-ne0.true)
 
 pub returns-then-not-inside : goal.returns-then-not-inside
 unfolding add_step judge by_number
 returns-then-not-inside c =
-    rw (told c.ok.ensures c.if-not-ok.false, eq-eqb _ _ c.if-report-ne0.false, told c.inside.ensures c.if-not-inside.true)
+    let kept = MatchResult-at_ok _ _ _ c.in_ok-ring.was c.checked.ensures in
+    rw (kept.1, eq-eqb _ _ c.if-report-ne0.false, told c.inside.ensures c.if-not-inside.true)
 
 pub returns-in_err-next : goal.returns-in_err-next
 returns-in_err-next c =
-    let p = err_from_is_err_and c.from_residual.result c.from_residual.ensures.1 in
+    let p = err_from_is_err_and c.from_residual-in_err-next.result c.from_residual-in_err-next.ensures.1 in
+    let kept = MatchResult-at_ok _ _ _ c.in_ok-ring.was c.checked.ensures in
+    let next = sym c.next.ensures ∙ c.in_err-next.was in
     rw (p.1, p.2)
-    (stopped c.args.mem.now c.args.self c.args.report (told c.ok.ensures c.if-not-ok.false) (eq-eqb _ _ c.if-report-ne0.false)
-    (told c.inside.ensures c.if-not-inside.false) _ (sym c.next.ensures ∙ c.in_err-next.was))
+    (stopped c.args.mem.now c.args.self c.args.report kept.1 (eq-eqb _ _ c.if-report-ne0.false)
+    (told c.inside.ensures c.if-not-inside.false) _ (rw kept.0 at next))
 
 pub returns-then-next-report : goal.returns-then-next-report
 unfolding judge by_number
 returns-then-next-report c =
+    let kept = MatchResult-at_ok _ _ _ c.in_ok-ring.was c.checked.ensures in
+    let next = sym c.next.ensures ∙ c.in_ok-next.was in
     rw (
-      rest c.args.mem.now c.args.self c.args.report (told c.ok.ensures c.if-not-ok.false) (eq-eqb _ _ c.if-report-ne0.false)
-          (told c.inside.ensures c.if-not-inside.false) _ (sym c.next.ensures ∙ c.in_ok-next.was),
+      rest c.args.mem.now c.args.self c.args.report kept.1 (eq-eqb _ _ c.if-report-ne0.false)
+          (told c.inside.ensures c.if-not-inside.false) _ (rw kept.0 at next),
       eq-eqb _ _ c.if-next-report.true,
     )
 
 pub returns : goal.returns
 unfolding judge
 returns c =
+    let kept = MatchResult-at_ok _ _ _ c.in_ok-ring.was c.checked.ensures in
+    let next = sym c.next.ensures ∙ c.in_ok-next.was in
     rw (
-      rest c.args.mem.now c.args.self c.args.report (told c.ok.ensures c.if-not-ok.false) (eq-eqb _ _ c.if-report-ne0.false)
-          (told c.inside.ensures c.if-not-inside.false) _ (sym c.next.ensures ∙ c.in_ok-next.was),
+      rest c.args.mem.now c.args.self c.args.report kept.1 (eq-eqb _ _ c.if-report-ne0.false)
+          (told c.inside.ensures c.if-not-inside.false) _ (rw kept.0 at next),
       ne_eqb _ _ c.if-next-report.false,
     )
