@@ -5,15 +5,12 @@
 use Prim.Native.Nat.{ℕ, suc, ◌+◌, ◌-◌, ◌≤◌, ◌<◌}
 use mathlib.Core.Path.{◌≡◌, refl, sym, ◌∙◌}
 use mathlib.Core.Logic.{◌≢◌}
-use mathlib.Core.Bool.{Bool, true, false, not}
+use mathlib.Core.Bool.{Bool, not}
 use native.Mathlib.Omega.{arith}
 use native.Mathlib.Decide.{ℕ_discrete}
 use lib.Dec.{eqb}
 use borrow.Author.Tests.{eq-eqb, ne_eqb}
-
-twice : (b : Bool) → b ≡ not (not b)
-twice true = refl
-twice false = refl
+use Rattle.std.proofs.Math.Bool.{not-not}
 
 module _ {A : Type 0} (N : ℕ) (mark : A → Bool) (cyc : ℕ → Bool) where
   pub record Queue (look wanted : ℕ → A) (n t q : ℕ) : Type 0 where
@@ -73,7 +70,7 @@ module _ {A : Type 0} (N : ℕ) (mark : A → Bool) (cyc : ℕ → Bool) where
             rw (others p l (omega (arith, Q.room)) d, before p h') (Q.held p l h')
 
         old : (p : ℕ) → n + 1 ≤ p → p < n + 1 + N → Dec (p ≡ n + N) → mark (look' p) ≡ not (cyc p)
-        old p l h (yes e) = rw (e, again, fresh, flips) (twice (cyc n))
+        old p l h (yes e) = rw (e, again, fresh, flips) (sym (not-not (cyc n)))
         old p l h (no d) =
             let l' : n ≤ p = omega arith in
             let h' : p < n + N = omega arith in

@@ -4,6 +4,7 @@ use mathlib.Core.Path.{◌≡◌, refl, sym, ap, ◌∙◌}
 use mathlib.Core.Bool.{Bool, true, false, not, cond, beq}
 use native.Mathlib.Numerals.{add-one}
 use native.Mathlib.Omega.{arith}
+use Rattle.std.specs.Cmp.{booleans_Decides}
 use Rattle.guest.specs.Memory.{Memory, trb_at}
 use Rattle.guest.proofs.Judge.{judge_passes}
 use Rattle.trb.specs.Trb.{cycle_of}
@@ -21,8 +22,7 @@ use Rattle.delivery.proofs.Walk.{walk, at, on, good_at, first}
 use Rattle.delivery.proofs.Sound.{Kept, kept_earlier, next_passes, sound, next_walk, table_entry, take_passes, configures}
 
 fresh_yes : (b c : Bool) → b ≡ c → beq b c ≡ true
-fresh_yes true c e = rw (← e)
-fresh_yes false c e = rw (← e)
+fresh_yes b c = (booleans_Decides b c).1
 
 fresh_no : (b c : Bool) → b ≡ not c → beq b c ≡ false
 fresh_no b true e = rw e

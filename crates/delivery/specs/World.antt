@@ -1,9 +1,9 @@
 -- The ring in guest memory with a reader, as a machine: the ring's side is what event_ring's contracts cite.
-use Rattle.std.specs.Prelude.{ℕ, Bool, cond, List, eqb, Result, Ok, Err}
+use Rattle.std.specs.Prelude.{ℕ, Bool, cond, List, eqb, Ok, Err}
 use Rattle.guest.specs.Memory.{Memory, write}
+use Rattle.trb.specs.Trb.{Parsed}
 use Rattle.trb.specs.Events.{event_of}
 use Rattle.trb.specs.declared.event.EventTrb.{EventTrb}
-use Rattle.trb.specs.declared.Unrecognized.{Unrecognized}
 use Rattle.event_ring.specs.Answers.{Take, TakeMoved}
 use Rattle.event_ring.specs.Ring.{added, added_memory, take}
 use Rattle.event_ring.specs.Consumer as standard
@@ -35,7 +35,7 @@ pub record World (S : Type 0) : Type 0 where
   pub report : ℕ
 
 -- raw bytes that were taken, decoded
-abbrev pub decoded : Result EventTrb Unrecognized → Answer
+abbrev pub decoded : Parsed EventTrb → Answer
 decoded (Ok e) = gives e
 decoded (Err x) = garbled
 
