@@ -77,7 +77,8 @@ fn chase(start: u64, mem: &[u8], ring: &mut CLinkedRing) -> CChase
     ensures { (result ≡ flat_chase (chase (window start mem.now) (ring_of ring.old)))
         × (ring.new ≡ ring_after (chase (window start mem.now) (ring_of ring.old)) ring.old) }
 {
-    match ring_of(ring).next_trb(&Window::at(start, mem)) {
+    let entry = ring_of(ring);
+    match entry.next_trb(&Window::at(start, mem)) {
         Ok(c) => {
             put(ring, c.ring.place, c.ring.cycle as u64);
             flat_chase(c)
