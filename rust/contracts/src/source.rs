@@ -697,7 +697,7 @@ mod tests {
         pub struct End;
         struct Line<'a, T: A> { words: Vec<(u8, [T; 2])>, rest: &'a mut [u8], ghost full: { rest.now ≡ {} } }
         enum Parsed<F> { Known { fields: F }, Other }
-        impl<F: Drop> Parsed<F> { fn of<const N: usize>(x: F) -> Result<[F; N], &'static u8> {} }
+        impl<F: Drop> Parsed<F> { fn of<const N: usize>(x: F, y: [&str; 2]) -> Result<[F; N], &'static u8> {} }
         impl<F: fmt::Display + Drop> fmt::Display for Parsed<F> { fn fmt() {} }
         impl From<&Line<'_, u8>> for Code { fn from(x: &Line<'_, u8>) -> Self { y } }
         pub type Read = Result<Option<[u8; 16]>, Code,>;
@@ -891,6 +891,7 @@ mod tests {
             "pub fn f(x: Words<'a, u8>) {}",
             "pub fn f(x: impl Fn(u8) -> u8) {}",
             "pub fn f(x: (u8, u8)) {}",
+            "pub fn f(x: [&u8; 2]) {}",
             "pub fn f(x: &impl Print) {}",
             "pub fn f() -> io::Result<()> {}",
             "fn f(x: Vec<u8, fn g() {}>) {}",

@@ -176,7 +176,7 @@ impl<'a> Parser<'a> {
     }
 
     /// A path, an array or a slice of one, or `()`. A path may have lifetimes, and `Option` and `Result` have types. What is private may
-    /// also have other parameters, be a tuple, or be what has a trait, as `impl Print`.
+    /// also have other parameters, be a tuple, an array of references, or be what has a trait, as `impl Print`.
     pub(super) fn plain(&mut self) -> Read<()> {
         match self.peek()? {
             "(" => self.tuple(),
@@ -200,7 +200,10 @@ impl<'a> Parser<'a> {
 
     fn array(&mut self) -> Read<()> {
         self.expect("[")?;
-        self.plain()?;
+        if self.peek()? == "&" {
+            self.note("&");
+        }
+        self.kind()?;
         match self.word()? {
             "]" => Ok(()),
             ";" => self.skip("]", &["{"]),
