@@ -1,5 +1,5 @@
 -- What the answers of this crate's functions say. Assumes nothing.
-use Rattle.std.proofs.Common.{◌≡◌, ℕ, Bool, true, false, [], ◌∷◌, sym, refl, ◌∙◌, arith}
+use Rattle.std.proofs.Common.{◌≡◌, ℕ, Bool, true, false, [], ◌∷◌, refl, arith}
 use Rattle.std.specs.Prelude.{Result, Ok, Err}
 use Rattle.guest.specs.Judge.{judge}
 use Rattle.guest.specs.Memory.{Memory, inside}
@@ -37,16 +37,6 @@ module _ (m : Memory) (a k : ℕ) where
       go : (b : Bool) → inside m a k ≡ b → picked x b ≡ Err r → Untouched r
       go true i p = grind arith
       go false i p = record { without = i; is = grind arith }
-
-  -- so say what answers of a callee's answer: f makes of what was read what is answered
-  pub touch_given : {A B : Type 0} (f : A → B) (x y : A) {r : Result A Refusal} {z : B} → r ≡ touching m a k x → r ≡ Ok y → z ≡ f y
-      → Ok z ≡ touching m a k (f x)
-  unfolding judge
-  touch_given f x y e h g = let t = touching_ok x y (sym e ∙ h) in rw (t.within, g, t.is)
-
-  pub touch_refused : {A B : Type 0} (x : A) {r : Result A Refusal} {n : Refusal} (z : B) → r ≡ touching m a k x → r ≡ Err n → Err n ≡ touching m a k z
-  unfolding judge by_number
-  touch_refused x z e h = let u = touching_err x _ (sym e ∙ h) in rw (u.without, u.is)
 
   pub touch_inside : {A : Type 0} (x : A) → inside m a k ≡ true → touching m a k x ≡ Ok x
   unfolding judge

@@ -1,5 +1,6 @@
 -- Laws of dwords and of the fields in them: bytes and dwords are one thing. Assumes nothing.
-use Rattle.std.proofs.Common.{◌≡◌, ℕ, zero, suc, ◌+◌, ◌-◌, ◌*◌, ◌/◌, ◌%◌, ◌^◌, ◌<◌, ◌≤◌, List, [], ◌∷◌, ◌++◌, length, take, drop, sym, refl, ap, ◌∙◌, ap₂, append_assoc, append-nil, mod-eq_of_lt, mul_assoc, suc-add, pow-suc, zero-add, mul-suc, div-one, add-one, arith, length-drop, take-append-drop, take_all, drop-cons, drop-drop, pow-add, shr-shr}
+use Rattle.std.proofs.Common.{◌≡◌, ℕ, zero, suc, ◌+◌, ◌-◌, ◌*◌, ◌/◌, ◌%◌, ◌^◌, ◌<◌, ◌≤◌, List, [], ◌∷◌, ◌++◌, length, take, drop, sym, refl, ap, ◌∙◌, ap₂, append_assoc, append-nil, mod-eq_of_lt, mul_assoc, suc-add, pow-suc, zero-add, mul-suc, div-one, add-one, arith, length-drop, take-append-drop, take_all, drop-cons, pow-add, shr-shr}
+use Rattle.std.proofs.lemmas.Simd.{chunk-drop}
 use native.Mathlib.Nat.{mod-one, div-div-eq-div-mul, pow-succ', one-le-pow, add-mul-div_left, add-mul-mod_self_left, div-eq_of_lt}
 use lib.Arith.{mod-mul}
 use lib.Pow.{field as pow-field}
@@ -67,10 +68,6 @@ split_join d z =
     le_skip 4 4 d.d0 t1 8 ∙ le_skip 4 4 d.d1 t2 4 ∙ le_skip 4 4 d.d2 t3 0 ∙ rw (← append-nil t3) (le_back 4 [] z.z3) in
     rw (e0, e1, e2, e3)
 
--- a part, and what comes after it
-seam : (k a : ℕ) (xs : List ℕ) → take k (drop a xs) ++ drop (a + k) xs ≡ drop a xs
-seam k a xs = rw (← drop-drop k a xs, take-append-drop)
-
 pub join_split : (b : List ℕ) → Bytes b → length b ≡ 16 → bytes_of_dwords (dwords_of b) ≡ b
 join_split b h n =
     rw (
@@ -79,8 +76,8 @@ join_split b h n =
       bytes_of_le 4 b 8 h (omega arith),
       bytes_of_le 4 b 12 h (omega arith),
       take_all 4 (drop 12 b) (rw length-drop (omega arith)),
-      seam 4 8 b,
-      seam 4 4 b,
+      ← chunk-drop 8 4 b,
+      ← chunk-drop 4 4 b,
       take-append-drop,
     )
 

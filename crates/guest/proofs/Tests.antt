@@ -1,5 +1,6 @@
 -- What the branches of code say of the tests of a definition. Assumes nothing.
-use Rattle.std.proofs.Common.{◌≡◌, ℕ, Bool, true, false, not, ◌&&◌, eqb, sym, refl, ◌∙◌, rules, le-ltb, lt-ltb, eq-eqb, ne_eqb, le-leb}
+use Rattle.std.proofs.Common.{◌≡◌, ℕ, Bool, true, false, not, ◌&&◌, eqb, sym, ◌∙◌, rules, le-ltb, lt-ltb, eq-eqb, ne_eqb, le-leb}
+use Rattle.std.proofs.lemmas.Bool.{and_parts}
 use borrow.Author.Tests.{not-true, not-false, lt-leb}
 
 -- what a branch on `r` knows of the definition's test b
@@ -14,9 +15,7 @@ pub yes : {r b : Bool} → r ≡ b → not r ≡ false → b ≡ true
 yes e h = sym e ∙ not-false _ h
 
 pub both : (a b : Bool) → a && b ≡ true → (a ≡ true) × (b ≡ true)
-both true b h = (refl, h)
-both false true h = (h, refl)
-both false false h = (h, h)
+both a b h = and_parts a b h
 
 pub ruleset tests = (rules, lt-ltb, le-ltb, le-leb, lt-leb, eq-eqb, ne_eqb)
 

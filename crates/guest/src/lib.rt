@@ -58,6 +58,7 @@ pub struct Dwords {
 }
 
 // The N bytes from place `at` on.
+#[tactic(auto, unfolding(crate::specs::Bytes::part))]
 fn array<const N: usize>(bytes: &[u8], at: usize) -> [u8; N]
     requires { at + N ≤ length bytes.now }
     ensures { result ≡ part bytes.now at N }
@@ -70,6 +71,7 @@ fn array<const N: usize>(bytes: &[u8], at: usize) -> [u8; N]
 impl From<[u8; 16]> for Slot {
     ghost from_gives = { λ trb s. s ≡ slot_of trb };
 
+    #[tactic(auto, using(crate::proofs::Bytes::le_four))]
     fn from(trb: [u8; 16]) -> Slot {
         Slot {
             d3: u64::from(u32::from_le_bytes(array(&trb, 12))),
@@ -106,6 +108,7 @@ impl<'a> Window<'a> {
     }
 
     // The N bytes from `address` on.
+    #[tactic(auto, using(crate::proofs::Memory::inside_within), unfolding(crate::specs::Refusals::by_number, crate::specs::Judge::judge))]
     fn array<const N: usize>(&self, address: u64) -> Result<[u8; N], Refusal>
         ensures { result ≡ bytes_read self.now address N }
     {
@@ -121,6 +124,7 @@ impl<'a> Window<'a> {
         self.array(address)
     }
 
+    #[tactic(auto, unfolding(crate::specs::Judge::judge, crate::specs::Refusals::by_number))]
     pub fn read_slot(&self, address: u64) -> Result<Slot, Refusal>
         ensures { result ≡ slot_read self.now address }
     {
@@ -141,6 +145,7 @@ impl<'a> Window<'a> {
 
     // The same for one of many slots: what does not hang on the address comes first, so that a loop does it once, and then one
     // comparison tells an address below the start, where the difference wraps, and one past the end alike.
+    #[tactic(auto, using(crate::proofs::Memory::within_inside, crate::proofs::Memory::inside_no), unfolding(crate::specs::Refusals::by_number, crate::specs::Judge::judge))]
     pub fn read_next_slot(&self, address: u64) -> Result<Slot, Refusal>
         ensures { result ≡ slot_read self.now address }
     {
@@ -156,6 +161,7 @@ impl<'a> Window<'a> {
     }
 
     // How far from the window's start the bytes are, 0 where they are not all inside.
+    #[tactic(auto, using(crate::proofs::Memory::inside_within), unfolding(crate::specs::Judge::judge))]
     pub fn offset(&self, address: u64, length: u64) -> u64
         ensures { result ≡ offset_of self.now address length }
     {
@@ -172,6 +178,7 @@ impl FromWindow for u16 {
 
     ghost made = { λ n. n };
 
+    #[tactic(auto, using(crate::proofs::Bytes::le_two), unfolding(crate::specs::Judge::judge, crate::specs::Refusals::by_number))]
     fn read(mem: &Window<'_>, address: u64) -> Result<u16, Refusal> {
         Ok(u16::from_le_bytes(mem.array(address)?))
     }
@@ -182,6 +189,7 @@ impl FromWindow for u32 {
 
     ghost made = { λ n. n };
 
+    #[tactic(auto, using(crate::proofs::Bytes::le_four), unfolding(crate::specs::Judge::judge, crate::specs::Refusals::by_number))]
     fn read(mem: &Window<'_>, address: u64) -> Result<u32, Refusal> {
         Ok(u32::from_le_bytes(mem.array(address)?))
     }
@@ -192,11 +200,13 @@ impl FromWindow for u64 {
 
     ghost made = { λ n. n };
 
+    #[tactic(auto, using(crate::proofs::Bytes::le_eight), unfolding(crate::specs::Judge::judge, crate::specs::Refusals::by_number))]
     fn read(mem: &Window<'_>, address: u64) -> Result<u64, Refusal> {
         Ok(u64::from_le_bytes(mem.array(address)?))
     }
 }
 
+#[tactic(auto, using(crate::proofs::Bytes::filled))]
 fn store(mem: &mut [u8], at: usize, trb: [u8; 16])
     requires { at + 16 ≤ length mem.old }
     ensures { mem.new ≡ write mem.old at trb }
@@ -205,6 +215,7 @@ fn store(mem: &mut [u8], at: usize, trb: [u8; 16])
 }
 
 // Writes the sixteen bytes, or changes nothing.
+#[tactic(auto, using(crate::proofs::Memory::inside_within), unfolding(crate::specs::Refusals::by_number, crate::specs::Judge::judge))]
 pub fn write_trb(start: u64, mem: &mut [u8], address: u64, trb: [u8; 16]) -> Result<(), Refusal>
     ensures { (result ≡ write_answer (window start mem.old) address) × (mem.new ≡ (write_memory (window start mem.old) address trb).bytes) }
 {
@@ -216,6 +227,7 @@ pub fn write_trb(start: u64, mem: &mut [u8], address: u64, trb: [u8; 16]) -> Res
 }
 
 // The bytes themselves, none where they are not all inside. Their own place in `mem` is promised, which a window's value does not say.
+#[tactic(auto, using(crate::proofs::Memory::inside_within), unfolding(crate::specs::Judge::judge))]
 pub fn part(start: u64, mem: &[u8], address: u64, length: u64) -> &[u8]
     ensures { (result.now ≡ part_of (window start mem.now) address length)
         × (result.ref_ptr ≡ (mem.entry.ref_ptr.0, offset_of (window start mem.now) address length + mem.entry.ref_ptr.1)) }
@@ -230,6 +242,7 @@ pub fn part(start: u64, mem: &[u8], address: u64, length: u64) -> &[u8]
 impl From<[u8; 16]> for Dwords {
     ghost from_gives = { λ trb d. d ≡ dwords_of trb };
 
+    #[tactic(auto, using(crate::proofs::Bytes::le_four))]
     fn from(trb: [u8; 16]) -> Dwords {
         Dwords {
             d0: u32::from_le_bytes(array(&trb, 0)),
@@ -255,12 +268,14 @@ impl From<Dwords> for [u8; 16] {
 
 // A TRB as two numbers of eight bytes, and the bytes of two such numbers.
 
+#[tactic(auto, using(crate::proofs::Bytes::le_eight))]
 pub fn low(trb: [u8; 16]) -> u64
     ensures { result ≡ low_of trb }
 {
     u64::from_le_bytes(array(&trb, 0))
 }
 
+#[tactic(auto, using(crate::proofs::Bytes::le_eight))]
 pub fn high(trb: [u8; 16]) -> u64
     ensures { result ≡ high_of trb }
 {
