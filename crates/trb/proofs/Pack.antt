@@ -1,8 +1,6 @@
 -- A dword as its fields: laws over any list of widths, and the sums that the code computes. Assumes nothing.
 use mathlib.Core.Path.{◌≡◌, refl, ap, ap₂, ◌∙◌}
 use mathlib.Core.List.{List, [], ◌∷◌}
-use mathlib.Core.Bool.{Bool, true, false}
-use mir.Val.{bool_byte}
 use Prim.{Unit}
 use Prim.Native.Nat.{ℕ, ◌+◌, ◌*◌, ◌/◌, ◌^◌, ◌<◌}
 use native.Mathlib.Nat.{add_comm, add-mul-mod_self_right, add-mul-div_right, mod-eq_of_lt, div-eq_of_lt, zero-add, div-one, mod-add-div'}
@@ -10,7 +8,6 @@ use native.Mathlib.Omega.{arith}
 use lib.Arith.{digits_lt}
 use lib.Pow.{pow-add, shr-shr, shr_lt, pow_pos}
 use Rattle.guest.specs.Fields.{bits}
-use Rattle.trb.specs.Trb.{bit}
 use Rattle.trb.specs.Events.{pack, in_code, in_transfer, in_command_completion, in_port_status_change}
 
 -- the fields of n, from bit lo up
@@ -65,11 +62,7 @@ pub record Packed (ws vs : List ℕ) : Type 0 where
 pub packed : (ws vs : List ℕ) → Fit ws vs → Packed ws vs
 packed ws vs f = record { small = pack_lt ws vs f; read = fields ws vs f }
 
--- ---- the code's sums, in which a flag is cast to its number
-
-pub bit_cast : (b : Bool) → bool_byte b ≡ bit b
-bit_cast true = refl
-bit_cast false = refl
+-- ---- the code's sums
 
 pub flat_code : (v k : ℕ) → v + k * 0x100_0000 ≡ pack in_code (v ∷ k ∷ [])
 flat_code v k = omega arith

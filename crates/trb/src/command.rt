@@ -75,6 +75,7 @@ pub enum CommandTrbVariant {
 }
 
 // The command, or refusal 11 where the pointer's low four bits are not 0.
+#[tactic(auto, unfolding(guest::specs::Refusals::by_number))]
 fn aligned(raw: RawTrbBuffer, variant: CommandTrbVariant) -> Result<CommandTrbVariant, Unrecognized>
     ensures { result ≡ aligned raw variant }
 {
@@ -177,6 +178,7 @@ fn reset_device(raw: RawTrbBuffer) -> Result<CommandTrbVariant, Unrecognized>
 }
 
 impl CommandTrbVariant {
+    #[tactic(auto, unfolding(guest::specs::Refusals::by_number, crate::specs::Commands::command_of))]
     pub fn parse(raw: RawTrbBuffer) -> Result<CommandTrbVariant, Unrecognized>
         ensures { result ≡ command_of raw }
     {

@@ -40,6 +40,7 @@ impl From<DataStageTrb> for TrbDmaInfo {
 }
 
 // Whether the data is all in memory, or what refuses it.
+#[tactic(auto, unfolding(guest::specs::Refusals::by_number, crate::specs::Data::data_refusal, guest::specs::Judge::judge))]
 pub fn data_refusal(mem: &Window<'_>, info: TrbDmaInfo) -> Result<(), Refusal>
     ensures { result ≡ data_answer mem.now info }
 {
@@ -53,6 +54,7 @@ pub fn data_refusal(mem: &Window<'_>, info: TrbDmaInfo) -> Result<(), Refusal>
 }
 
 // The part of the memory, empty beside a refusal: its bytes, and how far from the window's start it begins.
+#[tactic(auto, unfolding(crate::specs::Data::data_of, crate::specs::Data::data_offset, guest::specs::Judge::judge))]
 pub fn data(start: u64, mem: &[u8], info: TrbDmaInfo) -> &[u8]
     ensures { (result.now ≡ data_of (window start mem.now) info)
         × (result.ref_ptr ≡ (mem.entry.ref_ptr.0, data_offset (window start mem.now) info + mem.entry.ref_ptr.1)) }

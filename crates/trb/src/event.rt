@@ -48,8 +48,7 @@ fn transfer_dwords(t: TransferEventTrbData, cycle_bit: bool) -> Dwords
     requires { t.trb_transfer_length < 2 ^ 24 }
     ensures { result ≡ transfer_dwords t cycle_bit }
 {
-    let listed = t.completion_code;
-    let code = u32::from(listed.number());
+    let code = u32::from(t.completion_code.number());
     let data = t.event_data as u32;
     let cycle = cycle_bit as u32;
     Dwords {
@@ -68,8 +67,7 @@ fn command_completion_dwords(t: CommandCompletionEventTrbData, cycle_bit: bool) 
     requires { t.command_completion_parameter < 2 ^ 24 }
     ensures { result ≡ command_completion_dwords t cycle_bit }
 {
-    let listed = t.completion_code;
-    let code = u32::from(listed.number());
+    let code = u32::from(t.completion_code.number());
     let cycle = cycle_bit as u32;
     Dwords {
         d0: (t.command_trb_pointer % 0x1_0000_0000) as u32,
@@ -79,6 +77,7 @@ fn command_completion_dwords(t: CommandCompletionEventTrbData, cycle_bit: bool) 
     }
 }
 
+#[tactic(auto, unfolding(codes::specs::Codes::number_of))]
 fn port_status_change_dwords(t: PortStatusChangeEventTrbData, cycle_bit: bool) -> Dwords
     ensures { result ≡ port_status_change_dwords t cycle_bit }
 {
@@ -128,6 +127,7 @@ fn port_status_change_clear(raw: RawTrbBuffer) -> bool
         & (d.d3 / 0x1_0000 % 0x1_0000 == 0)
 }
 
+#[tactic(auto, unfolding(guest::specs::Refusals::by_number, guest::specs::Judge::judge))]
 fn transfer(raw: RawTrbBuffer) -> Result<EventTrb, Unrecognized>
     ensures { result ≡ transfer_as raw }
 {
@@ -147,6 +147,7 @@ fn transfer(raw: RawTrbBuffer) -> Result<EventTrb, Unrecognized>
     }))
 }
 
+#[tactic(auto, unfolding(guest::specs::Refusals::by_number, guest::specs::Judge::judge))]
 fn command_completion(raw: RawTrbBuffer) -> Result<EventTrb, Unrecognized>
     ensures { result ≡ command_completion_as raw }
 {
@@ -164,6 +165,7 @@ fn command_completion(raw: RawTrbBuffer) -> Result<EventTrb, Unrecognized>
     }))
 }
 
+#[tactic(auto, unfolding(guest::specs::Refusals::by_number, guest::specs::Judge::judge))]
 fn port_status_change(raw: RawTrbBuffer) -> Result<EventTrb, Unrecognized>
     ensures { result ≡ port_status_change_as raw }
 {
@@ -180,6 +182,7 @@ fn port_status_change(raw: RawTrbBuffer) -> Result<EventTrb, Unrecognized>
 
 impl EventTrb {
     // The bytes with the cycle bit given, or the refusal of an event that they cannot hold.
+    #[tactic(auto, unfolding(guest::specs::Refusals::by_number, crate::specs::Events::bytes_answered, crate::specs::Events::event_dwords, guest::specs::Judge::judge, crate::specs::Events::valid))]
     pub fn to_bytes(self, cycle_bit: bool) -> Result<RawTrbBuffer, Refusal>
         ensures { result ≡ bytes_answered self cycle_bit }
     {
@@ -197,6 +200,7 @@ impl EventTrb {
         }
     }
 
+    #[tactic(auto, unfolding(guest::specs::Refusals::by_number, crate::specs::Events::event_of))]
     pub fn parse(raw: RawTrbBuffer) -> Result<EventTrb, Unrecognized>
         ensures { result ≡ event_of raw }
     {

@@ -85,6 +85,7 @@ fn endpoint_id(raw: RawTrbBuffer) -> u8
 }
 
 // The number of two bytes from byte `at` on.
+#[tactic(auto, unfolding(guest::specs::Bytes::le))]
 fn two(raw: RawTrbBuffer, at: usize) -> u16
     requires { at + 2 ≤ 16 }
     ensures { result ≡ le raw at 2 }

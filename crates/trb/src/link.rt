@@ -16,6 +16,7 @@ pub struct LinkTrb {
 }
 
 impl LinkTrb {
+    #[tactic(auto, unfolding(crate::specs::Links::link_of))]
     pub fn parse(raw: RawTrbBuffer) -> Option<LinkTrb>
         ensures { result ≡ link_of raw }
     {

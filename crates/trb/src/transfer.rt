@@ -151,6 +151,7 @@ fn no_op(raw: RawTrbBuffer) -> NoOpTrb
 }
 
 impl TransferTrbVariant {
+    #[tactic(auto, unfolding(guest::specs::Refusals::by_number, crate::specs::Transfers::transfer_of))]
     pub fn parse(raw: RawTrbBuffer) -> Result<TransferTrbVariant, Unrecognized>
         ensures { result ≡ transfer_of raw }
     {
