@@ -20,6 +20,7 @@ pub struct CTrb {
     pub high: u64,
 }
 
+#[tactic(auto, using(crate::proofs::Listed::is_listed_lem, crate::proofs::Listed::is_gap, crate::proofs::Listed::is_above))]
 fn listed(code: u32) -> bool
     ensures { result ≡ is_listed (code_of code) }
 {
@@ -46,10 +47,11 @@ fn joined(pointer: u64, d2: u32, d3: u32) -> CTrb
 {
     CTrb {
         low: pointer,
-        high: (d2 as u64) + (d3 as u64) * 0x1_0000_0000,
+        high: d2 as u64 + d3 as u64 * 0x1_0000_0000,
     }
 }
 
+#[tactic(auto, using(crate::proofs::Listed::listed_yes, crate::proofs::Listed::listed_no, crate::proofs::Written::unlisted, crate::proofs::Written::transfer_no))]
 fn transfer_written(event: &[u64; 3], cycle: u64) -> CTrb
     ensures { result ≡ written (bytes_from (coded (code_in event.now) (transfer_in event.now)) (eqb (cycle % 2) 1)) }
 {
@@ -73,6 +75,7 @@ fn transfer_written(event: &[u64; 3], cycle: u64) -> CTrb
     )
 }
 
+#[tactic(auto, using(crate::proofs::Listed::listed_yes, crate::proofs::Listed::listed_no, crate::proofs::Written::unlisted, crate::proofs::Written::command_low, crate::proofs::Written::command_no))]
 fn command_completion_written(event: &[u64; 3], cycle: u64) -> CTrb
     ensures { result ≡ written (bytes_from (coded (code_in event.now) (command_completion_in event.now)) (eqb (cycle % 2) 1)) }
 {
@@ -96,6 +99,7 @@ fn command_completion_written(event: &[u64; 3], cycle: u64) -> CTrb
     )
 }
 
+#[tactic(auto, using(crate::proofs::Written::port_yes))]
 fn port_status_change_written(event: &[u64; 3], cycle: u64) -> CTrb
     ensures { result ≡ written (bytes_from (Ok (port_status_change_in event.now)) (eqb (cycle % 2) 1)) }
 {
@@ -106,10 +110,11 @@ fn port_status_change_written(event: &[u64; 3], cycle: u64) -> CTrb
 }
 
 // The TRB of an event with the cycle bit that `cycle` has in bit 0. Most events are Transfer Events: their test stands first.
+#[tactic(auto, unfolding(guest::specs::Refusals::by_number, crate::specs::Events::event_in))]
 pub fn bytes(event: &[u64; 3], cycle: u64) -> CTrb
     ensures { result ≡ written (bytes_from (event_in event.now) (eqb (cycle % 2) 1)) }
 {
-    if event[0] % 0x100 == (trb_types::TRANSFER_EVENT as u64) {
+    if event[0] % 0x100 == trb_types::TRANSFER_EVENT as u64 {
         return transfer_written(event, cycle);
     }
     let trb_type = (event[0] % 0x100) as u8;
@@ -122,6 +127,7 @@ pub fn bytes(event: &[u64; 3], cycle: u64) -> CTrb
 
 // ---- read: 0, with the event's words; or the refusal, with the words as they were
 
+#[tactic(auto, using(crate::proofs::Read::transfer_12, crate::proofs::Read::transfer_11, crate::proofs::Read::transfer_put), unfolding(guest::specs::Refusals::by_number))]
 fn transfer_read(out: &mut [u64; 3], low: u64, high: u64) -> u16
     ensures { (result ≡ refusal_shown (transfer_as (whole_of low high))) × (out.new ≡ put_variant (transfer_as (whole_of low high)) out.old) }
 {
@@ -149,6 +155,7 @@ fn transfer_read(out: &mut [u64; 3], low: u64, high: u64) -> u16
     0
 }
 
+#[tactic(auto, using(crate::proofs::Read::command_12, crate::proofs::Read::command_11, crate::proofs::Read::command_put), unfolding(guest::specs::Refusals::by_number))]
 fn command_completion_read(out: &mut [u64; 3], low: u64, high: u64) -> u16
     ensures { (result ≡ refusal_shown (command_completion_as (whole_of low high))) × (out.new ≡ put_variant (command_completion_as (whole_of low high)) out.old) }
 {
@@ -172,6 +179,7 @@ fn command_completion_read(out: &mut [u64; 3], low: u64, high: u64) -> u16
     0
 }
 
+#[tactic(auto, using(guest::proofs::Tests::tests, crate::proofs::Read::port_12, crate::proofs::Read::port_11), unfolding(guest::specs::Refusals::by_number))]
 fn port_status_change_read(out: &mut [u64; 3], low: u64, high: u64) -> u16
     ensures { (result ≡ refusal_shown (port_status_change_as (whole_of low high))) × (out.new ≡ put_variant (port_status_change_as (whole_of low high)) out.old) }
 {
@@ -192,13 +200,14 @@ fn port_status_change_read(out: &mut [u64; 3], low: u64, high: u64) -> u16
     }
     crate::put(
         out,
-        &[(trb_types::PORT_STATUS_CHANGE_EVENT as u64) + d0 / 0x100_0000 % 0x100 * 0x100],
+        &[trb_types::PORT_STATUS_CHANGE_EVENT as u64 + d0 / 0x100_0000 % 0x100 * 0x100],
     );
     0
 }
 
 // The event that the two halves of a TRB say, put into the words that are lent; answers 0. Or the refusal, with the type above it where
 // the refusal is 10.
+#[tactic(auto, using(crate::proofs::Read::type_is), unfolding(guest::specs::Refusals::by_number, trb::specs::Events::event_of))]
 pub fn parse(out: &mut [u64; 3], low: u64, high: u64) -> u16
     ensures { (result ≡ refusal_shown (event_of (whole_of low high))) × (out.new ≡ put_variant (event_of (whole_of low high)) out.old) }
 {
@@ -207,12 +216,13 @@ pub fn parse(out: &mut [u64; 3], low: u64, high: u64) -> u16
         trb_types::TRANSFER_EVENT => transfer_read(out, low, high),
         trb_types::COMMAND_COMPLETION_EVENT => command_completion_read(out, low, high),
         trb_types::PORT_STATUS_CHANGE_EVENT => port_status_change_read(out, low, high),
-        _ => (Refusal::Type.number() as u16) + (trb_type as u16) * 0x100,
+        _ => Refusal::Type.number() as u16 + trb_type as u16 * 0x100,
     }
 }
 
 // ---- given, by value
 
+#[tactic(auto, unfolding(guest::specs::Refusals::by_number))]
 fn transfer_given(event: &[u64; 3]) -> Result<EventTrb, TrbParseError>
     ensures { result ≡ coded (code_in event.now) (transfer_in event.now) }
 {
@@ -233,6 +243,7 @@ fn transfer_given(event: &[u64; 3]) -> Result<EventTrb, TrbParseError>
     }))
 }
 
+#[tactic(auto, unfolding(guest::specs::Refusals::by_number))]
 fn command_completion_given(event: &[u64; 3]) -> Result<EventTrb, TrbParseError>
     ensures { result ≡ coded (code_in event.now) (command_completion_in event.now) }
 {
@@ -251,6 +262,7 @@ fn command_completion_given(event: &[u64; 3]) -> Result<EventTrb, TrbParseError>
     }))
 }
 
+#[tactic(auto, unfolding(guest::specs::Refusals::by_number, crate::specs::Events::event_in))]
 pub fn given(event: &[u64; 3]) -> Result<EventTrb, TrbParseError>
     ensures { result ≡ event_in event.now }
 {

@@ -5,18 +5,6 @@ use Rattle.trb.specs.Events.{event_of}
 use Rattle.words.proofs.Read.{type_is}
 use Rattle.words.proofs.event.parse.Goals as goal
 
-pub returns-in-32 : goal.returns-in-32
-unfolding event_of
-returns-in-32 c = rw (type_is c.args.low c.args.high, c.in-32.is) c.transfer_read.ensures
-
-pub returns-in-33 : goal.returns-in-33
-unfolding event_of
-returns-in-33 c = rw (type_is c.args.low c.args.high, c.in-33.is) c.command_completion_read.ensures
-
-pub returns-in-34 : goal.returns-in-34
-unfolding event_of
-returns-in-34 c = rw (type_is c.args.low c.args.high, c.in-34.is) c.port_status_change_read.ensures
-
 pub returns-in_default : goal.returns-in_default
 unfolding event_of by_number
 returns-in_default c =
