@@ -71,7 +71,7 @@ fn put(out: &mut [u64; 3], variant: CommandTrbVariant)
             &[
                 trb_types::EVALUATE_CONTEXT_COMMAND as u64,
                 d.input_context_pointer,
-                (d.slot_id as u64),
+                d.slot_id as u64,
             ],
         ),
         CommandTrbVariant::ResetEndpoint(d) => words::put(

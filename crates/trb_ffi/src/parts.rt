@@ -70,6 +70,7 @@ pub fn lomvigast_parse_link(low: u64, high: u64) -> CLink
     flat_link(LinkTrb::parse(guest::whole(low, high)))
 }
 
+#[tactic(auto, using(trb::proofs::Parts::data_number))]
 pub fn lomvigast_data_refusal(
     start: u64,
     mem: &[u8],
@@ -91,6 +92,7 @@ pub fn lomvigast_data_refusal(
 }
 
 // The place of the part, since a reference cannot be answered over C.
+#[tactic(auto, using(trb::proofs::Parts::withheld))]
 pub fn lomvigast_data(start: u64, mem: &[u8], pointer: u64, length: u32, immediate: bool) -> CPart
     ensures { result ≡ part_of (window start mem.now) (info_of pointer length immediate) }
 {

@@ -8,7 +8,7 @@ ghost use Rattle.trb_ffi.specs.Transfers.{length_and, words_of, put};
 
 use crate::packing;
 use codes::trb_types;
-use trb::transfer::{DataStageTrb, NormalTrb, SetupStageTrb, TransferTrbVariant};
+use trb::transfer::{SetupStageTrb, TransferTrbVariant};
 
 fn length_and(length: u32, chain: bool, completion: bool, immediate: bool, short: bool) -> u64
     ensures { result ≡ length_and length chain completion immediate short }
@@ -53,37 +53,23 @@ fn setup_length(d: SetupStageTrb) -> u64
     (d.length as u64) + (d.interrupt_on_completion as u64) * 0x1_0000
 }
 
-fn normal(d: NormalTrb) -> u64
-    ensures { result ≡ length_and d.transfer_length d.chain d.interrupt_on_completion d.immediate_data d.interrupt_on_short }
-{
-    length_and(
-        d.transfer_length,
-        d.chain,
-        d.interrupt_on_completion,
-        d.immediate_data,
-        d.interrupt_on_short,
-    )
-}
-
-fn data(d: DataStageTrb) -> u64
-    ensures { result ≡ length_and d.transfer_length d.chain d.interrupt_on_completion d.immediate_data d.interrupt_on_short }
-{
-    length_and(
-        d.transfer_length,
-        d.chain,
-        d.interrupt_on_completion,
-        d.immediate_data,
-        d.interrupt_on_short,
-    )
-}
-
 fn put(out: &mut [u64; 4], variant: TransferTrbVariant)
     ensures { out.new ≡ lent.put (words_of variant) out.old }
 {
     match variant {
         TransferTrbVariant::Normal(d) => words::put(
             out,
-            &[trb_types::NORMAL as u64, d.data_pointer, normal(d)],
+            &[
+                trb_types::NORMAL as u64,
+                d.data_pointer,
+                length_and(
+                    d.transfer_length,
+                    d.chain,
+                    d.interrupt_on_completion,
+                    d.immediate_data,
+                    d.interrupt_on_short,
+                ),
+            ],
         ),
         TransferTrbVariant::SetupStage(d) => words::put(out, &[setup(d), setup_length(d)]),
         TransferTrbVariant::DataStage(d) => words::put(
@@ -91,8 +77,14 @@ fn put(out: &mut [u64; 4], variant: TransferTrbVariant)
             &[
                 trb_types::DATA_STAGE as u64,
                 d.data_pointer,
-                data(d),
-                (d.direction as u64),
+                length_and(
+                    d.transfer_length,
+                    d.chain,
+                    d.interrupt_on_completion,
+                    d.immediate_data,
+                    d.interrupt_on_short,
+                ),
+                d.direction as u64,
             ],
         ),
         TransferTrbVariant::StatusStage(d) => words::put(
