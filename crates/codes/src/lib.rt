@@ -66,7 +66,8 @@ impl CompletionCode {
     }
 }
 
-// The code of a byte, where one is listed.
+// The code of a byte, where one is listed: matched by value, as document 01 has the completion byte, and under a name that docs/PROMISES.md has
+// and document 02 asks about, so no `TryFrom`.
 #[tactic(auto, unfolding(crate::specs::Codes::code_of, crate::specs::Codes::number_of))]
 pub fn code_of(byte: u8) -> Option<CompletionCode>
     ensures { result ≡ code_of byte }

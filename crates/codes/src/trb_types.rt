@@ -1,4 +1,5 @@
-// The TRB types, xHCI 1.2 table 6-91.
+// The TRB types, xHCI 1.2 table 6-91. Numbers and no enum: a TRB's type is any of 64, document 01 has it matched by value, and a refusal shows
+// one that no parser has a row for.
 
 // On a transfer ring. A Link also stands on the command ring.
 pub const NORMAL: u8 = 1;

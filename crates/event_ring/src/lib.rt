@@ -23,7 +23,8 @@ pub struct Entry {
     pub size: u32,
 }
 
-// `ready` stands beside the others, and no Option around them: `never_configured` (proofs/Faults.antt) and C's words have it so.
+// `ready` stands beside the others, and no Option around them: `state_back` (crates/lomvigast_ffi) has every state whole, ready or not, and
+// C's words have all seven.
 #[derive(Clone, Copy)]
 pub struct EventRing {
     pub ready: bool,

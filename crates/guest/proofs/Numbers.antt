@@ -38,6 +38,21 @@ number_lt refusal.Reserved = omega arith
 number_lt refusal.Code = omega arith
 number_lt refusal.Immediate = omega arith
 
+pub number_some : (r : Refusal) → number_of r ≡ 0 → ⊥
+number_some refusal.Outside e = omega arith
+number_some refusal.TableBase e = omega arith
+number_some refusal.TableEntries e = omega arith
+number_some refusal.State e = omega arith
+number_some refusal.Segment e = omega arith
+number_some refusal.Report e = omega arith
+number_some refusal.Full e = omega arith
+number_some refusal.Event e = omega arith
+number_some refusal.Optional e = omega arith
+number_some refusal.Type e = omega arith
+number_some refusal.Reserved e = omega arith
+number_some refusal.Code e = omega arith
+number_some refusal.Immediate e = omega arith
+
 -- and each number from 1 to 13 is that of its refusal
 pub by_number_back : (n : ℕ) → n < 14 → (n ≡ 0 → ⊥) → number_of (by_number n) ≡ n
 unfolding by_number
@@ -67,6 +82,18 @@ unfolding judge
 refusal_lt [] f = omega arith
 refusal_lt ((n, true) ∷ ts) f = refusal_lt ts f.1
 refusal_lt ((n, false) ∷ ts) f = f.0
+
+-- what holds of a refusal by each such number, and of the answer where every test passes, holds of a judgement
+abbrev pub Listed : Tests → Type 0
+Listed [] = Unit {0}
+Listed ((n, b) ∷ ts) = (0 < n) × (n < 14) × Listed ts
+
+pub judged : {A : Type 0} (P : A → Type 0) (ts : Tests) (r : ℕ → A) (a : A) → Listed ts → ((n : ℕ) → (n ≡ 0 → ⊥) → n < 14 → P (r n))
+    → P a → P (judge ts r a)
+unfolding judge
+judged P [] r a l refused answered = answered
+judged P ((n, true) ∷ ts) r a l refused answered = judged P ts r a l.2 refused answered
+judged P ((n, false) ∷ ts) r a l refused answered = refused n (λ z. omega (arith, l.0)) l.1
 
 -- an answer with no refusal has the number 0, and shows what stands there; any other the refusal of its number
 pub as_result_ok : {A : Type 0} (n : ℕ) (x y : A) → as_result n x ≡ Ok y → (n ≡ 0) × (y ≡ x)

@@ -88,7 +88,8 @@ impl<'a> Window<'a> {
         Window { start, bytes }
     }
 
-    // Whether all `length` bytes from `address` on are in the window. Of an address that is known to be a multiple of 16 the compiler
+    // Whether all `length` bytes from `address` on are in the window: two numbers, as document 01 and C ask, and no type, in which there
+    // would be no fact. Of an address that is known to be a multiple of 16 the compiler
     // sees that the third test passes.
     pub fn inside(&self, address: u64, length: u64) -> bool
         ensures { result ≡ inside self.now address length }
@@ -160,7 +161,8 @@ impl<'a> Window<'a> {
         Ok(Slot::from(array(self.bytes, offset as usize)))
     }
 
-    // How far from the window's start the bytes are, 0 where they are not all inside.
+    // How far from the window's start the bytes are, 0 where they are not all inside: no Option, since the function never failed, and C's
+    // words have the 0.
     #[tactic(auto, using(crate::proofs::Memory::inside_within), unfolding(crate::specs::Judge::judge))]
     pub fn offset(&self, address: u64, length: u64) -> u64
         ensures { result ≡ offset_of self.now address length }
@@ -172,6 +174,8 @@ impl<'a> Window<'a> {
         }
     }
 }
+
+// One body for each width: `from_le_bytes` is each number type's own, and no trait of std has it.
 
 impl FromWindow for u16 {
     ghost width = { 2 };
@@ -214,7 +218,7 @@ fn store(mem: &mut [u8], at: usize, trb: [u8; 16])
     mem[at..at + 16].copy_from_slice(&trb);
 }
 
-// Writes the sixteen bytes, or changes nothing.
+// Writes the sixteen bytes, or changes nothing. It takes the slice and no window, since the bytes at exit are promised.
 #[tactic(auto, using(crate::proofs::Memory::inside_within), unfolding(crate::specs::Refusals::by_number, crate::specs::Judge::judge))]
 pub fn write_trb(start: u64, mem: &mut [u8], address: u64, trb: [u8; 16]) -> Result<(), Refusal>
     ensures { (result ≡ write_answer (window start mem.old) address) × (mem.new ≡ (write_memory (window start mem.old) address trb).bytes) }
@@ -226,7 +230,7 @@ pub fn write_trb(start: u64, mem: &mut [u8], address: u64, trb: [u8; 16]) -> Res
     Ok(())
 }
 
-// The bytes themselves, none where they are not all inside. Their own place in `mem` is promised, which a window's value does not say.
+// The bytes themselves, none where they are not all inside, as document 01 has the data part. Their own place in `mem` is promised, which a window's value does not say.
 #[tactic(auto, using(crate::proofs::Memory::inside_within), unfolding(crate::specs::Judge::judge))]
 pub fn part(start: u64, mem: &[u8], address: u64, length: u64) -> &[u8]
     ensures { (result.now ≡ part_of (window start mem.now) address length)
@@ -266,7 +270,7 @@ impl From<Dwords> for [u8; 16] {
     }
 }
 
-// A TRB as two numbers of eight bytes, and the bytes of two such numbers.
+// A TRB as two numbers of eight bytes, and the bytes of two such numbers: three names that docs/PROMISES.md has, each of them one call or two.
 
 #[tactic(auto, using(crate::proofs::Bytes::le_eight))]
 pub fn low(trb: [u8; 16]) -> u64

@@ -2,38 +2,39 @@
 ghost use Rattle.std.specs.Prelude.{◌≡◌};
 ghost use Rattle.guest.specs.Refusals.{number_of};
 
-// In the order of their numbers, the first of which is 1.
+// By their numbers.
 #[derive(Clone, Copy, PartialEq, Eq)]
 pub enum Refusal {
     // A byte to be touched is not inside the lent memory.
     Outside = 1,
     // The table's base is not a multiple of 64.
-    TableBase,
+    TableBase = 2,
     // The table has no entry, or too many.
-    TableEntries,
+    TableEntries = 3,
     // The ring was never configured, or was reset, or its state breaks its own limits.
-    State,
+    State = 4,
     // A segment entry: base not a multiple of 64, size 0 or too large, or not all of the segment inside memory.
-    Segment,
+    Segment = 5,
     // The reported place is not a multiple of 16.
-    Report,
+    Report = 6,
     // The ring is full.
-    Full,
+    Full = 7,
     // An event that cannot be written: a field does not fit, or a pointer's low bits are set.
-    Event,
+    Event = 8,
     // An optional command, types 18 to 21.
-    Optional,
+    Optional = 9,
     // A type that the parser has no row for.
-    Type,
+    Type = 10,
     // A bit is set that must be 0.
-    Reserved,
+    Reserved = 11,
     // An event's completion code is not one that the event can hold.
-    Code,
+    Code = 12,
     // The data part was asked of a TRB that holds its data itself.
-    Immediate,
+    Immediate = 13,
 }
 
 impl Refusal {
+    // Document 01's number: by name, and no `From`, as contracts say `number_of`.
     pub fn number(self) -> u8
         ensures { result ≡ number_of self }
     {

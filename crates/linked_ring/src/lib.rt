@@ -89,7 +89,7 @@ impl LinkedRing {
     {
         LinkedRing {
             place: self.place.wrapping_add(LinkedRing::TRB_SIZE),
-            cycle: self.cycle,
+            ..self
         }
     }
 

@@ -1,5 +1,7 @@
-// Guest memory and the rings as Rust and C have them; trb_ffi has the rest, and lomvigast_ffi_c exports what is here. A ring's state is words that the caller keeps and lends
-// to be changed in place; an answer stands in a register, or in words that the caller lends.
+// Guest memory and the rings as Rust and C have them; trb_ffi has the rest, and lomvigast_ffi_c exports what is here. A ring's state is words that
+// the caller keeps and lends to be changed in place; an answer stands in a register, or in words that the caller lends. So here a refusal is its
+// number, 0 for none, a kind is a number, and what an answer has not is 0: C has no Result and no enum with data. Two functions that do the same of
+// two widths or two rings are two names in C.
 #![tactic(auto)]
 
 pub mod linked;

@@ -12,8 +12,7 @@ use linked_ring::{Chase, Found, LinkedRing, Notes};
 // The place, and the cycle state as 0 or 1.
 pub type CLinkedRing = [u64; 2];
 
-// What a chase came to, as Rust and C hold it: byte 0 of `kind` is 0 for nothing new, 1 for a TRB, 2 for too many links, 3 for a refusal,
-// whose number is in byte 1; `notes` has the links in two bytes, then a byte for each flag.
+// What a chase came to, as Rust and C hold it: byte 0 of `kind` is one of the numbers below, byte 1 a refusal's; `notes` has the links in two bytes, then a byte for each flag.
 #[repr(C)]
 #[derive(Clone, Copy)]
 pub struct CChase {
@@ -23,6 +22,15 @@ pub struct CChase {
     pub high: u64,
     pub notes: u64,
 }
+
+// The kinds, byte 0 of `kind`.
+const NOTHING_NEW: u64 = 0;
+
+const TRB: u64 = 1;
+
+const TOO_MANY_LINKS: u64 = 2;
+
+const REFUSED: u64 = 3;
 
 fn ring_of(ring: &CLinkedRing) -> LinkedRing
     ensures { result ≡ ring_of ring.now }
@@ -60,10 +68,10 @@ fn flat_chase(c: Chase) -> CChase
 {
     let notes = notes_word(c.notes);
     match c.found {
-        Found::NothingNew => met(0, notes),
-        Found::TooManyLinks => met(2, notes),
+        Found::NothingNew => met(NOTHING_NEW, notes),
+        Found::TooManyLinks => met(TOO_MANY_LINKS, notes),
         Found::Trb(t) => CChase {
-            kind: 1,
+            kind: TRB,
             address: t.address,
             low: guest::low(t.buffer),
             high: guest::high(t.buffer),
@@ -83,7 +91,7 @@ fn chase(start: u64, mem: &[u8], ring: &mut CLinkedRing) -> CChase
             put(ring, c.ring.place, c.ring.cycle as u64);
             flat_chase(c)
         }
-        Err(refusal) => met(3 + (refusal.number() as u64) * 0x100, 0),
+        Err(refusal) => met(REFUSED + (refusal.number() as u64) * 0x100, 0),
     }
 }
 
@@ -92,7 +100,7 @@ fn found(ring: &mut CLinkedRing, place: u64, cycle: u64, links: u64, slot: Slot)
 {
     put(ring, place, cycle);
     CChase {
-        kind: 1,
+        kind: TRB,
         address: place,
         low: slot.low,
         high: slot.high,
@@ -100,7 +108,7 @@ fn found(ring: &mut CLinkedRing, place: u64, cycle: u64, links: u64, slot: Slot)
     }
 }
 
-// Links that leave nothing to note are followed here; where anything else is met, the whole rule begins anew. The next place is a Link's
+// Links that leave nothing to note are followed here, for speed (docs/SPEED.md); where anything else is met, the whole rule begins anew. The next place is a Link's
 // pointer as it was read and not what is left of it after a mask, so that the next TRB can be read a step earlier.
 pub fn lomvigast_next_trb(start: u64, mem: &[u8], ring: &mut CLinkedRing) -> CChase
     ensures { (result ≡ flat_chase (chase (window start mem.now) (ring_of ring.old)))
@@ -115,7 +123,7 @@ pub fn lomvigast_next_trb(start: u64, mem: &[u8], ring: &mut CLinkedRing) -> CCh
         };
         if slot.d3 % 2 != cycle {
             put(ring, place, cycle);
-            return met(0, links);
+            return met(NOTHING_NEW, links);
         }
         if slot.d3 / 0x400 % 0x40 != (trb_types::LINK as u64) {
             return found(ring, place, cycle, links, slot);

@@ -39,6 +39,7 @@ fn fits(ring: &CEventRing) -> bool
         & (ring[CYCLE] < 2)
 }
 
+// Words that no state has are a ring that was never configured, which is refused with 4.
 fn state(ring: &CEventRing) -> EventRing
     ensures { result ≡ state_of ring.now }
 {
@@ -70,15 +71,16 @@ fn put(ring: &mut CEventRing, s: EventRing)
     ];
 }
 
+// A ring within its limits whose segment has a slot after the present one: over the words, so that the usual case makes no state.
 fn plain(ring: &CEventRing) -> bool
     ensures { result ≡ plain ring.now }
 {
     (ring[TABLE] % EventRing::SEGMENT_ALIGNMENT == 0)
         & (ring[PLACE] % EventRing::SLOT_SIZE == 0)
         & (2 <= ring[REMAINING])
-        & (ring[REMAINING] <= 4096)
+        & (ring[REMAINING] <= (EventRing::MOST_SLOTS as u64))
         & (ring[INDEX] < ring[ENTRIES])
-        & (ring[ENTRIES] <= 16)
+        & (ring[ENTRIES] <= (EventRing::MOST_ENTRIES as u64))
         & (ring[READY] == 1)
         & (ring[CYCLE] < 2)
 }
@@ -94,15 +96,8 @@ fn rounded(place: u64) -> u64
 fn step(ring: &mut CEventRing, place: u64, remaining: u64)
     ensures { ring.new ≡ stepped place remaining ring.old }
 {
-    *ring = [
-        ring[TABLE],
-        place,
-        remaining,
-        ring[INDEX],
-        ring[ENTRIES],
-        ring[READY],
-        ring[CYCLE],
-    ];
+    let [table, _, _, index, entries, ready, cycle] = *ring;
+    *ring = [table, place, remaining, index, entries, ready, cycle];
 }
 
 pub fn lomvigast_reset(ring: &mut CEventRing)
@@ -147,7 +142,7 @@ pub fn lomvigast_configure_reader(
     }
 }
 
-// The whole rule.
+// The whole rule, for the export, which calls it where the case is not the usual one.
 fn add(start: u64, mem: &mut [u8], ring: &mut CEventRing, event: &[u64; 3], report: u64) -> u8
     ensures { (result ≡ (added_from (window start mem.old) (state_of ring.old) (event_in event.now) report).refusal) × (mem.new ≡ (memory_from (window start mem.old) (state_of ring.old) (event_in event.now) report).bytes) × (ring.new ≡ ring_from (window start mem.old) ring.old (event_in event.now) report) }
 {
@@ -176,7 +171,7 @@ pub fn lomvigast_add(
     ensures { (result ≡ (added_from (window start mem.old) (state_of ring.old) (event_in event.now) report).refusal) × (mem.new ≡ (memory_from (window start mem.old) (state_of ring.old) (event_in event.now) report).bytes) × (ring.new ≡ ring_from (window start mem.old) ring.old (event_in event.now) report) }
 {
     let place = rounded(ring[PLACE]);
-    if !Window::at(start, mem).inside(place, 16) {
+    if !Window::at(start, mem).inside(place, EventRing::SLOT_SIZE) {
         return add(start, mem, ring, event, report);
     }
     if !(plain(ring) & (report % EventRing::SLOT_SIZE == 0)) {
@@ -197,7 +192,7 @@ pub fn lomvigast_add(
     0
 }
 
-// The whole rule.
+// The whole rule, for the export, as with `add`.
 fn take(start: u64, mem: &[u8], reader: &mut CEventRing, out: &mut [u64; 2]) -> u8
     ensures { (result ≡ take_number (take (window start mem.now) (reader_at (state_of reader.old))).answer) × (reader.new ≡ taken_from (take (window start mem.now) (reader_at (state_of reader.old))) reader.old) × (out.new ≡ put_taken (take (window start mem.now) (reader_at (state_of reader.old))) out.old) }
 {

@@ -1,8 +1,8 @@
-// Runs the marked cases of document 01, in a window that begins at 0 and in one that begins high, and writes what comes out, then the completion codes by name and number. The file stdout has what
-// the document and xHCI say.
+// Runs the marked cases of document 01, in a window that begins at 0 and in one that begins high, and writes what comes out, then the completion
+// codes by name and number. The file stdout has what the document and xHCI say; the words for it stand here, and in no Display of the core's.
 #![tactic(auto)]
 
-use codes::CompletionCode;
+use codes::{CompletionCode, trb_types};
 use event_ring::EventRing;
 use guest::Window;
 use guest::refusal::Refusal;
@@ -28,7 +28,7 @@ fn event(rt: &impl Print, name: &str, event: EventTrb, cycle_bit: bool) -> io::R
     println!(rt)
 }
 
-// The number of what refuses, 0 for none.
+// The number of what refuses, 0 for none, as the text shows it.
 fn refusal<T: Drop>(answer: Result<T, Refusal>) -> u8 {
     match answer {
         Ok(_) => 0,
@@ -94,14 +94,14 @@ fn events(rt: &impl Print) -> io::Result<()> {
 }
 
 fn parsers(rt: &impl Print) -> io::Result<()> {
-    command(rt, "P1", trb_of(0x08, 11))?;
-    let mut dequeue = trb_of(0x47, 16);
+    command(rt, "P1", trb_of(0x08, trb_types::ADDRESS_DEVICE_COMMAND))?;
+    let mut dequeue = trb_of(0x47, trb_types::SET_TR_DEQUEUE_POINTER_COMMAND);
     dequeue[10] = 0x34;
     dequeue[11] = 0x12;
     dequeue[12] = 0x01;
     command(rt, "P2", dequeue)?;
-    transfer(rt, "P4", trb_of(0, 6))?;
-    command(rt, "P4", trb_of(0, 18))
+    transfer(rt, "P4", trb_of(0, trb_types::LINK))?;
+    command(rt, "P4", trb_of(0, trb_types::FORCE_EVENT_COMMAND))
 }
 
 // Addresses in a window are told from its start.

@@ -38,8 +38,8 @@ impl Counts {
         Ok(())
     }
 
-    pub(crate) fn as_told(&mut self, letter: u8, kind: Kind) {
-        if letter.is_ascii_lowercase() {
+    pub(crate) fn as_told(&mut self, wrong: bool, kind: Kind) {
+        if wrong {
             increment(&mut self.differ);
             return;
         }

@@ -2,7 +2,8 @@
 //
 // A line is a letter for its kind, the input, a colon and the answer; the head of the file says the forms. The input as it was read and
 // the core's answer are put into the same text, and the two texts are compared: so a line that cannot be read differs. A small letter
-// begins a line whose answer is wrong on purpose: it must differ, so that a comparison which finds nothing is seen.
+// begins a line whose answer is wrong on purpose: it must differ, so that a comparison which finds nothing is seen. No heap: the file, a line's memory,
+// its numbers and its text have fixed rooms.
 #![tactic(auto)]
 
 mod counts;
@@ -42,7 +43,7 @@ fn read_full(input: &mut impl Read, room: &mut [u8]) -> io::Result<usize>
     Ok(length)
 }
 
-// Puts a line's input, as it was read, and the core's answer into a text.
+// Puts a line's input, as it was read, and the core's answer into a text. One is read and one is written, so no struct holds both.
 fn answer(kind: Kind, given: &Numbers, guest: &mut Guest, text: &mut impl Write) -> io::Result<()> {
     match kind {
         Kind::Command => trbs::parse_command(given, text),
@@ -63,9 +64,9 @@ fn up_to_colon(line: &[u8]) -> &[u8] {
     line.split(|b| *b == b':').next().unwrap_or(line)
 }
 
-// Whether a line and the core's are as the letter tells: the same, or other in the answer and nowhere else.
-fn is_as_told(letter: u8, line: &[u8], got: &[u8]) -> bool {
-    if letter.is_ascii_lowercase() {
+// Whether a line and the core's are as they should be: the same, or, of a line that is wrong on purpose, other in the answer and nowhere else.
+fn is_as_told(wrong: bool, line: &[u8], got: &[u8]) -> bool {
+    if wrong {
         line != got && up_to_colon(line) == up_to_colon(got)
     } else {
         line == got
@@ -86,6 +87,7 @@ fn next_line(
     let Ok(kind) = Kind::try_from(letter.to_ascii_uppercase()) else {
         return counts.otherwise(rt, line, &[letter]);
     };
+    let wrong = letter.is_ascii_lowercase();
     let given = input::numbers(line);
     if letter == b'M' && !guest.resize(given[1]) {
         return counts.otherwise(rt, line, b"no memory");
@@ -96,10 +98,10 @@ fn next_line(
     answer(kind, &given, guest, &mut text)?;
     let end = text.position().min(256) as usize;
     let got = &text.get_ref()[..end];
-    if !is_as_told(letter, line, got) {
+    if !is_as_told(wrong, line, got) {
         return counts.otherwise(rt, line, got);
     }
-    counts.as_told(letter, kind);
+    counts.as_told(wrong, kind);
     Ok(())
 }
 

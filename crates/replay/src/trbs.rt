@@ -1,9 +1,17 @@
 // Lines about single TRBs: the parsers, and events written. Of a word's fields the last is taken with all above it, so that what should
-// be 0 there shows.
+// be 0 there shows. What runs are the exports, so kinds and refusals are C's numbers here.
 use crate::input::Numbers;
+use codes::trb_types;
 use std::io::Write;
 use std::{fmt, io};
 use trb_ffi::{commands, events, parts, transfers};
+
+// The events' types, as a word has them.
+const TRANSFER: u64 = trb_types::TRANSFER_EVENT as u64;
+
+const COMPLETION: u64 = trb_types::COMMAND_COMPLETION_EVENT as u64;
+
+const PORT: u64 = trb_types::PORT_STATUS_CHANGE_EVENT as u64;
 
 #[derive(Clone, Copy, Default)]
 pub(crate) struct Trb {
@@ -63,23 +71,25 @@ impl From<[u64; 3]> for Command {
     fn from(words: [u64; 3]) -> Command {
         let [a, b, c] = words;
         let none = Command::default();
-        match a & 0xff {
-            10 | 17 => Command {
+        match (a & 0xff) as u8 {
+            trb_types::DISABLE_SLOT_COMMAND | trb_types::RESET_DEVICE_COMMAND => Command {
                 slot: a >> 8,
                 ..none
             },
-            11..=13 => Command {
+            trb_types::ADDRESS_DEVICE_COMMAND
+            | trb_types::CONFIGURE_ENDPOINT_COMMAND
+            | trb_types::EVALUATE_CONTEXT_COMMAND => Command {
                 pointer: b,
                 flag: c >> 8,
                 slot: c & 0xff,
                 ..none
             },
-            14 | 15 => Command {
+            trb_types::RESET_ENDPOINT_COMMAND | trb_types::STOP_ENDPOINT_COMMAND => Command {
                 endpoint: a >> 8 & 0xff,
                 slot: a >> 16,
                 ..none
             },
-            16 => Command {
+            trb_types::SET_TR_DEQUEUE_POINTER_COMMAND => Command {
                 pointer: b,
                 stream: c & 0xffff,
                 flag: c >> 32 & 0xff,
@@ -127,8 +137,8 @@ impl From<[u64; 4]> for Transfer {
     fn from(words: [u64; 4]) -> Transfer {
         let [a, b, c, d] = words;
         let none = Transfer::default();
-        match a & 0xff {
-            1 | 3 => Transfer {
+        match (a & 0xff) as u8 {
+            trb_types::NORMAL | trb_types::DATA_STAGE => Transfer {
                 pointer: b,
                 length: c & 0xffff_ffff,
                 short: c >> 56,
@@ -138,7 +148,7 @@ impl From<[u64; 4]> for Transfer {
                 direction: d,
                 ..none
             },
-            2 => Transfer {
+            trb_types::SETUP_STAGE => Transfer {
                 length: b & 0xffff,
                 value: a >> 32 & 0xffff,
                 index: a >> 48,
@@ -224,13 +234,13 @@ impl Event {
     pub(crate) fn words(&self) -> [u64; 3] {
         let coded = self.length | self.code << 32;
         match self.trb_type {
-            32 => {
+            TRANSFER => {
                 let flag = self.event_data << 40;
                 let place = self.endpoint << 48 | self.slot << 56;
-                [32, self.pointer, coded | flag | place]
+                [TRANSFER, self.pointer, coded | flag | place]
             }
-            33 => [33, self.pointer, coded | self.slot << 40],
-            34 if self.code == 1 => [34 | self.port << 8, 0, 0],
+            COMPLETION => [COMPLETION, self.pointer, coded | self.slot << 40],
+            PORT if self.code == 1 => [PORT | self.port << 8, 0, 0],
             _ => [0, 0, 0],
         }
     }

@@ -53,7 +53,8 @@ pub fn data_refusal(mem: &Window<'_>, info: TrbDmaInfo) -> Result<(), Refusal>
     Ok(())
 }
 
-// The part of the memory, empty beside a refusal: its bytes, and how far from the window's start it begins.
+// The part of the memory, empty beside a refusal, as document 01 has it: its bytes, and how far from the window's start it begins. It takes the
+// slice and no window, since the part's own place in it is promised.
 #[tactic(auto, unfolding(crate::specs::Data::data_of, crate::specs::Data::data_offset, guest::specs::Judge::judge))]
 pub fn data(start: u64, mem: &[u8], info: TrbDmaInfo) -> &[u8]
     ensures { (result.now ≡ data_of (window start mem.now) info)

@@ -100,7 +100,7 @@ fn low_three(raw: RawTrbBuffer) -> u32
     d.d2 % 0x100_0000
 }
 
-// Whether the bits that an event of the type leaves 0 are 0.
+// Whether the bits that an event of the type leaves 0 are 0: by the dwords at hand, and no walk over the definition's list of fields.
 
 fn transfer_clear(raw: RawTrbBuffer) -> bool
     ensures { result ≡ clear raw reserved_in_transfer }
@@ -128,6 +128,8 @@ fn port_status_change_clear(raw: RawTrbBuffer) -> bool
 }
 
 #[tactic(auto, unfolding(guest::specs::Refusals::by_number, guest::specs::Judge::judge))]
+// Of an event's fields and reserved bits each kind has its own; what two of them share is the code's line.
+
 fn transfer(raw: RawTrbBuffer) -> Result<EventTrb, Unrecognized>
     ensures { result ≡ transfer_as raw }
 {

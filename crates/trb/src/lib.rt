@@ -17,7 +17,8 @@ use guest::refusal::Refusal;
 
 pub type RawTrbBuffer = [u8; 16];
 
-// Why a TRB is not taken apart, and beside the refusals Optional and Type the TRB's type, else 0.
+// Why a TRB is not taken apart, and beside the refusals Optional and Type the TRB's type, else 0: no Option, as document 01 shows a 0 where there
+// is nothing to show, and C's words have it.
 #[derive(Clone, Copy)]
 pub struct TrbParseError {
     pub refusal: Refusal,
@@ -42,6 +43,7 @@ impl Unrecognized {
     }
 }
 
+// Any of 64, so a number.
 pub fn trb_type(raw: RawTrbBuffer) -> u8
     ensures { result ≡ type_of raw }
 {
@@ -55,7 +57,8 @@ pub fn cycle_bit(raw: RawTrbBuffer) -> bool
     d.d3 % 2 == 1
 }
 
-// What the modules read of the bytes, each but `two` as the field of a dword that it is.
+// What the modules read of the bytes, each but `two` as the field of a dword that it is. At each call the place is a literal, of which the check
+// sees that it is below 16.
 
 // Bit `lo` of byte `at`.
 fn flag(raw: RawTrbBuffer, at: usize, lo: u8) -> bool

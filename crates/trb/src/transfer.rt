@@ -1,4 +1,4 @@
-// The TRBs of a transfer ring (xHCI 6.4.1, 6.4.4.2).
+// The TRBs of a transfer ring (xHCI 6.4.1, 6.4.4.2). A struct for each kind, as in command.rt.
 ghost use Rattle.std.specs.Prelude.{◌≡◌};
 ghost use Rattle.guest.specs.Fields.{field};
 ghost use Rattle.trb.specs.Transfers.{normal_trb, setup_stage_trb, data_stage_trb, status_stage_trb, event_data_trb, no_op_trb, transfer_of};

@@ -1,4 +1,4 @@
-// The commands of a driver, as Rust's enum and C's union hold them (specs/Commands.antt).
+// The commands of a driver, as Rust's enum and C's union hold them (specs/Commands.antt). Each word is a sum of fields with widths of its own.
 ghost use Rattle.std.specs.Prelude.{◌≡◌, ◌+◌, ◌*◌, ◌^◌};
 ghost use Rattle.guest.specs.Fields.{whole_of};
 ghost use Rattle.trb.specs.Commands.{command_of};

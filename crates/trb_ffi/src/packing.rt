@@ -1,4 +1,4 @@
-// Bytes as numbers, and sixteen bytes moved up by one in the words of an answer.
+// Sixteen bytes moved up by one in the words of an answer.
 ghost use Rattle.std.specs.Prelude.{◌≡◌, ◌+◌, ◌*◌, ◌/◌, ◌%◌, ◌^◌, ◌<◌, ◌≤◌};
 ghost use Rattle.guest.specs.Refusals.{number_of};
 ghost use Rattle.trb_ffi.specs.Commands.{refused};

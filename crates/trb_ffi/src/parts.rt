@@ -71,6 +71,17 @@ pub fn lomvigast_parse_link(low: u64, high: u64) -> CLink
 }
 
 #[tactic(auto, using(trb::proofs::Parts::data_number))]
+fn info_of(pointer: u64, length: u32, immediate: bool) -> TrbDmaInfo
+    ensures { result ≡ info_of pointer length immediate }
+{
+    TrbDmaInfo {
+        data_pointer: pointer,
+        transfer_length: length,
+        immediate_data: immediate,
+    }
+}
+
+#[tactic(auto, using(trb::proofs::Parts::data_number))]
 pub fn lomvigast_data_refusal(
     start: u64,
     mem: &[u8],
@@ -80,11 +91,7 @@ pub fn lomvigast_data_refusal(
 ) -> u8
     ensures { result ≡ data_refusal (window start mem.now) (info_of pointer length immediate) }
 {
-    let info = TrbDmaInfo {
-        data_pointer: pointer,
-        transfer_length: length,
-        immediate_data: immediate,
-    };
+    let info = info_of(pointer, length, immediate);
     match trb::data::data_refusal(&Window::at(start, mem), info) {
         Ok(()) => 0,
         Err(refusal) => refusal.number(),
@@ -92,21 +99,20 @@ pub fn lomvigast_data_refusal(
 }
 
 // The place of the part, since a reference cannot be answered over C.
-#[tactic(auto, using(trb::proofs::Parts::withheld))]
 pub fn lomvigast_data(start: u64, mem: &[u8], pointer: u64, length: u32, immediate: bool) -> CPart
     ensures { result ≡ part_of (window start mem.now) (info_of pointer length immediate) }
 {
-    let refusal = lomvigast_data_refusal(start, mem, pointer, length, immediate);
-    if refusal != 0 {
-        return CPart {
+    let window = Window::at(start, mem);
+    match trb::data::data_refusal(&window, info_of(pointer, length, immediate)) {
+        Ok(()) => CPart {
+            offset: window.offset(pointer, length as u64),
+            length,
+            refusal: 0,
+        },
+        Err(refusal) => CPart {
             offset: 0,
             length: 0,
-            refusal,
-        };
-    }
-    CPart {
-        offset: Window::at(start, mem).offset(pointer, length as u64),
-        length,
-        refusal: 0,
+            refusal: refusal.number(),
+        },
     }
 }

@@ -1,4 +1,5 @@
-// The TRBs of a transfer ring, as Rust's enum and C's union hold them (specs/Transfers.antt).
+// The TRBs of a transfer ring, as Rust's enum and C's union hold them (specs/Transfers.antt). Each word is a sum of fields with widths of its own;
+// chain and completion stand at another place in each kind.
 ghost use Rattle.std.specs.Prelude.{◌≡◌, ◌+◌, ◌*◌, ◌^◌};
 ghost use Rattle.guest.specs.Fields.{whole_of};
 ghost use Rattle.trb.specs.Transfers.{transfer_of};
@@ -29,7 +30,10 @@ fn flags(kind: u8, chain: bool, completion: bool) -> u64
 fn status(chain: bool, completion: bool, direction: bool) -> u64
     ensures { result ≡ 4 + bit chain * 2 ^ 8 + bit completion * 2 ^ 16 + bit direction * 2 ^ 24 }
 {
-    4 + (chain as u64) * 0x100 + (completion as u64) * 0x1_0000 + (direction as u64) * 0x100_0000
+    (trb_types::STATUS_STAGE as u64)
+        + (chain as u64) * 0x100
+        + (completion as u64) * 0x1_0000
+        + (direction as u64) * 0x100_0000
 }
 
 fn event_data(chain: bool, completion: bool) -> u64
@@ -41,7 +45,8 @@ fn event_data(chain: bool, completion: bool) -> u64
 fn setup(d: SetupStageTrb) -> u64
     ensures { result ≡ 2 + d.request_type * 2 ^ 16 + d.request * 2 ^ 24 + d.value * 2 ^ 32 + d.index * 2 ^ 48 }
 {
-    2 + (d.request_type as u64) * 0x1_0000
+    (trb_types::SETUP_STAGE as u64)
+        + (d.request_type as u64) * 0x1_0000
         + (d.request as u64) * 0x100_0000
         + (d.value as u64) * 0x1_0000_0000
         + (d.index as u64) * 0x1_0000_0000_0000

@@ -1,4 +1,6 @@
-// An event as three words, written as a TRB and read back. The code stays a number here, which saves the way through the enum of codes.
+// An event as three words, written as a TRB and read back. The code stays a number here, which saves the way through the enum of codes: by it an
+// event written and read stays below its limits (docs/SPEED.md). Refusals are numbers, since what answers is C's answer, in registers. Of two functions
+// for two kinds of event each has fields and reserved bits of its own; what they share is `listed`, `refused`, `joined`.
 ghost use Rattle.std.specs.Prelude.{◌≡◌, Ok, Err, Bool, ◌+◌, ◌*◌, ◌%◌, ◌^◌, ◌<◌, eqb};
 ghost use Rattle.guest.specs.Fields.{whole_of};
 ghost use Rattle.codes.specs.Codes.{code_of};
@@ -220,7 +222,7 @@ pub fn parse(out: &mut [u64; 3], low: u64, high: u64) -> u16
     }
 }
 
-// ---- given, by value
+// ---- given, by value: a match on the type's number, as document 01 has types matched
 
 #[tactic(auto, unfolding(guest::specs::Refusals::by_number))]
 fn transfer_given(event: &[u64; 3]) -> Result<EventTrb, TrbParseError>
@@ -282,7 +284,7 @@ pub fn given(event: &[u64; 3]) -> Result<EventTrb, TrbParseError>
     }
 }
 
-// The number of what refuses a given event, 0 where nothing does.
+// The number of what refuses a given event, 0 where nothing does, for C.
 pub fn number(given: Result<EventTrb, TrbParseError>) -> u8
     ensures { result ≡ number_of_given given }
 {
