@@ -1,14 +1,14 @@
 -- A code's number and a byte's code undo each other, a byte is of the class Listed exactly if it has a code, and what
 -- `code_of` answers shows this. Assumes nothing.
-use Prim.Native.Nat.{ℕ, zero, suc, ◌^◌, ◌<◌, ◌≤◌}
+use Prim.Native.Nat.{ℕ, ◌^◌, ◌<◌, ◌≤◌}
 use native.Mathlib.Decide.{dec_lt}
-use native.Mathlib.Nat.{le_of_suc-le-suc, not-suc-le-zero}
 use native.Mathlib.Omega.{arith}
-use mathlib.Core.Bool.{Bool, true, false, cond, ◌&&◌, beq}
+use mathlib.Core.Bool.{Bool, true, false, cond, ◌&&◌}
 use mathlib.Core.List.{List, [], ◌∷◌}
 use mathlib.Core.Path.{◌≡◌, refl, ap, ◌∙◌}
 use lib.Dec.{T, ltb, eqb, ltb→lt}
 use borrow.Author.Tests.{eqb-true, le-ltb, ne_eqb}
+use Rattle.std.proofs.lemmas.Bool.{agree_below_at}
 use Rattle.codes.specs.Codes.{number_of, codes, find, code_of, class_of, number_of_coded, values_of_coded}
 use Rattle.codes.specs.declared.CompletionCode.{CompletionCode}
 use Rattle.codes.specs.declared.Class.{Class}
@@ -112,23 +112,6 @@ abbrev pub is_code : Option CompletionCode → Bool
 is_code (Some k) = true
 is_code None = false
 
--- whether a test passes at each number below m
-below : (ℕ → Bool) → ℕ → Bool
-below f zero = true
-below f (suc m) = f 0 && below (λ k. f (suc k)) m
-
-each : (f : ℕ → Bool) (m n : ℕ) → T (below f m) → n < m → T (f n)
-unfolding below
-each f zero n t h = absurd (not-suc-le-zero h)
-each f (suc m) zero t h = left (f 0) (below (λ k. f (suc k)) m) t
-each f (suc m) (suc n) t h = each (λ k. f (suc k)) m n (right (f 0) (below (λ k. f (suc k)) m) t) (le_of_suc-le-suc h)
-
-same : (a b : Bool) → T (beq a b) → a ≡ b
-same true true t = refl
-same true false t = absurd t
-same false true t = absurd t
-same false false t = refl
-
 not_listed : (a b : Bool) → is_listed (cond a Class.Reserved (cond b Class.VendorError Class.VendorInfo)) ≡ false
 not_listed true b = refl
 not_listed false true = refl
@@ -136,11 +119,11 @@ not_listed false false = refl
 
 -- a byte is of the class Listed exactly if it has a code: a test computed up to 36, and above that neither holds
 pub listed_exactly : (n : ℕ) → is_listed (class_of n) ≡ is_code (code_of n)
-unfolding number_of code_of class_of below
+unfolding number_of code_of class_of
 listed_exactly n = by (dec_lt n 37)
   where
     by : Dec (n < 37) → is_listed (class_of n) ≡ is_code (code_of n)
-    by (yes h) = same (is_listed (class_of n)) (is_code (code_of n)) (each (λ k. beq (is_listed (class_of k)) (is_code (code_of k))) 37 n tt h)
+    by (yes h) = agree_below_at (λ k. is_listed (class_of k)) (λ k. is_code (code_of k)) 37 n refl h
     by (no h) =
         rw (above_36 n (omega arith), ne_eqb n 30 (λ e. omega arith), le-ltb n 37 (omega arith))
         (not_listed (ltb n 192) (ltb n 224))

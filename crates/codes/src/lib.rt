@@ -57,7 +57,7 @@ pub enum Class {
 }
 
 impl CompletionCode {
-    // The number of a code, xHCI 1.2 table 6-90.
+    // The number of a code, xHCI 1.2 table 6-90: a cast with a contract, under the name that docs/PROMISES.md has.
     #[tactic(auto, unfolding(crate::specs::Codes::number_of))]
     pub fn number(self) -> u8
         ensures { result ≡ number_of self }
@@ -113,7 +113,7 @@ pub fn code_of(byte: u8) -> Option<CompletionCode>
     }
 }
 
-// The class of a byte, xHCI 1.2 table 6-90.
+// The class of a byte, xHCI 1.2 table 6-90. A name and no `From`, as with `code_of`.
 #[tactic(auto, unfolding(crate::specs::Codes::class_of))]
 pub fn class_of(byte: u8) -> Class
     ensures { result ≡ class_of byte }

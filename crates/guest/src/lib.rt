@@ -1,5 +1,5 @@
-// Guest memory: a window, which is a lent slice of bytes and the guest address `start` of its first. No other crate indexes it or
-// works out how far from its start an address is.
+// Guest memory: a window, which is a lent slice of bytes and the guest address `start` of its first. No other crate reads it by
+// index or works out how far from its start an address is.
 #![tactic(auto)]
 
 pub mod refusal;
@@ -270,7 +270,7 @@ impl From<Dwords> for [u8; 16] {
     }
 }
 
-// A TRB as two numbers of eight bytes, and the bytes of two such numbers: three names that docs/PROMISES.md has, each of them one call or two.
+// A TRB as two numbers of eight bytes, and the bytes of two such numbers: three names that docs/PROMISES.md has, of the library's calls.
 
 #[tactic(auto, using(crate::proofs::Bytes::le_eight))]
 pub fn low(trb: [u8; 16]) -> u64

@@ -20,7 +20,8 @@ use Rattle.guest.specs.Refusals.{number_of, by_number}
 use Rattle.guest.specs.declared.refusal.Refusal.{Refusal}
 use Rattle.guest.proofs.Numbers.{numbered, number_lt}
 use Rattle.linked_ring.specs.declared.Chase.{Chase}
-use Rattle.words.proofs.Back.{read, nth, bit_lt}
+use Rattle.trb.proofs.OneEncoding.{nth}
+use Rattle.words.proofs.Back.{read, bit_lt}
 use Rattle.lomvigast_ffi.specs.Linked.{ring_of, ring_words, ring_after, notes_word, flat_chase}
 use Rattle.lomvigast_ffi.specs.declared.linked.CChase.{CChase}
 use Rattle.lomvigast_ffi.specs.Rings.{words_of, fits, state_of, take_number}

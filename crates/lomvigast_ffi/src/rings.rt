@@ -29,6 +29,7 @@ const CYCLE: usize = 6;
 // What `lomvigast_take` answers where there is no event. No refusal has this number.
 const NOTHING: u8 = 255;
 
+#[tactic(auto, unfolding(crate::specs::Rings::fits))]
 fn fits(ring: &CEventRing) -> bool
     ensures { result ≡ fits ring.now }
 {
@@ -72,6 +73,7 @@ fn put(ring: &mut CEventRing, s: EventRing)
 }
 
 // A ring within its limits whose segment has a slot after the present one: over the words, so that the usual case makes no state.
+#[tactic(auto, unfolding(crate::specs::Rings::plain))]
 fn plain(ring: &CEventRing) -> bool
     ensures { result ≡ plain ring.now }
 {
@@ -92,7 +94,7 @@ fn rounded(place: u64) -> u64
     place / EventRing::SLOT_SIZE * EventRing::SLOT_SIZE
 }
 
-// Another place in the same segment.
+// Another place in the same segment. Written whole, as every state is: two words set alone are no plainer.
 fn step(ring: &mut CEventRing, place: u64, remaining: u64)
     ensures { ring.new ≡ stepped place remaining ring.old }
 {
@@ -142,7 +144,8 @@ pub fn lomvigast_configure_reader(
     }
 }
 
-// The whole rule, for the export, which calls it where the case is not the usual one.
+// The whole rule, for the export, which calls it where the case is not the usual one: two functions, for speed (docs/SPEED.md, "The usual case
+// first").
 fn add(start: u64, mem: &mut [u8], ring: &mut CEventRing, event: &[u64; 3], report: u64) -> u8
     ensures { (result ≡ (added_from (window start mem.old) (state_of ring.old) (event_in event.now) report).refusal) × (mem.new ≡ (memory_from (window start mem.old) (state_of ring.old) (event_in event.now) report).bytes) × (ring.new ≡ ring_from (window start mem.old) ring.old (event_in event.now) report) }
 {

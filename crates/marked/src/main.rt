@@ -44,6 +44,9 @@ fn unrecognized(rt: &impl Print, name: &str, error: TrbParseError) -> io::Result
     )
 }
 
+// Each by its own parser's own answer, and each with a text of its own. `rt` and `name`, here and below, are who prints and a line's head: no thing
+// that is one.
+
 fn command(rt: &impl Print, name: &str, raw: RawTrbBuffer) -> io::Result<()> {
     match CommandTrbVariant::parse(raw) {
         Err(u) => unrecognized(rt, name, u.error),
@@ -64,7 +67,7 @@ fn transfer(rt: &impl Print, name: &str, raw: RawTrbBuffer) -> io::Result<()> {
     }
 }
 
-// A TRB of which only its first byte and its type are not 0.
+// A TRB of which only its first byte and its type, a number as everywhere (codes/src/trb_types.rt), are not 0.
 fn trb_of(first: u8, trb_type: u8) -> RawTrbBuffer {
     let mut raw = [0u8; 16];
     raw[0] = first;

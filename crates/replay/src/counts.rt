@@ -6,7 +6,7 @@ use std::io;
 const SHOWN: u64 = 10;
 
 // How many lines were read, how many cases agree, how many lines differ as they must, and how many are not as told; and how many of
-// each kind agree.
+// each kind agree: by a kind's place, since a map has a heap.
 #[derive(Default, Drop)]
 pub(crate) struct Counts {
     lines: u64,

@@ -89,7 +89,7 @@ fn next_line(
     };
     let wrong = letter.is_ascii_lowercase();
     let given = input::numbers(line);
-    if letter == b'M' && !guest.resize(given[1]) {
+    if matches!(kind, Kind::Memory) && !wrong && !guest.resize(given[1]) {
         return counts.otherwise(rt, line, b"no memory");
     }
     // No kind's text is longer.

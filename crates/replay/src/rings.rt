@@ -1,4 +1,4 @@
-// Lines about guest memory and the rings in it.
+// Lines about guest memory and the rings in it. What runs are the exports, so refusals and states are C's numbers here.
 ghost use Rattle.std.specs.Prelude.{◌≤◌, length};
 
 use crate::input::Numbers;

@@ -190,7 +190,7 @@ module _ (d : Dwords) (z : Sized d) where
   at3 : dword (bytes_of_dwords d) 3 ≡ d.d3
   at3 = ap (λ (x : Dwords). x.d3) (split_join d z)
 
-nth : (i : ℕ) {xs ys : List ℕ} → xs ≡ ys → get_or xs i 0 ≡ get_or ys i 0
+pub nth : (i : ℕ) {xs ys : List ℕ} → xs ≡ ys → get_or xs i 0 ≡ get_or ys i 0
 nth i e = ap (λ (l : List ℕ). get_or l i 0) e
 
 pointer_back : (p : ℕ) → p < 2 ^ 64 → bits (bits p 0 32) 0 32 + 2 ^ 32 * bits (bits p 32 32) 0 32 ≡ p

@@ -1,5 +1,5 @@
-// The commands of a driver (xHCI 6.4.3). A struct for each kind, also where two have the same fields, since usbvfiod has them so and the docs name
-// them; and a function for each that has fields.
+// The commands of a driver (xHCI 6.4.3). A struct for each kind, also where two have the same fields, since usbvfiod has them so and types of TRBs
+// keep its names (docs/NAMES.md); and a function for each that has fields.
 ghost use Rattle.std.specs.Prelude.{◌≡◌};
 ghost use Rattle.guest.specs.Fields.{field};
 ghost use Rattle.trb.specs.Commands.{aligned, disable_slot_as, address_device_as, configure_endpoint_as, evaluate_context_as, reset_endpoint_as, stop_endpoint_as, set_tr_dequeue_pointer_as, reset_device_as, command_of};
@@ -179,6 +179,7 @@ fn reset_device(raw: RawTrbBuffer) -> Result<CommandTrbVariant, Unrecognized>
 }
 
 impl CommandTrbVariant {
+    // Matched by the type's number, as with events.
     #[tactic(auto, unfolding(guest::specs::Refusals::by_number, crate::specs::Commands::command_of))]
     pub fn parse(raw: RawTrbBuffer) -> Result<CommandTrbVariant, Unrecognized>
         ensures { result ≡ command_of raw }

@@ -15,6 +15,8 @@ pub struct TrbDmaInfo {
     pub immediate_data: bool,
 }
 
+// One for each type, as `From` is. The two types are usbvfiod's, and differ in the direction.
+
 impl From<NormalTrb> for TrbDmaInfo {
     ghost from_gives = { λ t i. i ≡ of_normal t };
 

@@ -42,7 +42,7 @@ pub enum EventTrb {
     PortStatusChange(PortStatusChangeEventTrbData),
 }
 
-// ---- writing
+// ---- writing: a pointer is two dwords, as xHCI draws it
 
 fn transfer_dwords(t: TransferEventTrbData, cycle_bit: bool) -> Dwords
     requires { t.trb_transfer_length < 2 ^ 24 }
@@ -92,7 +92,7 @@ fn port_status_change_dwords(t: PortStatusChangeEventTrbData, cycle_bit: bool) -
 
 // ---- reading
 
-// Bytes 8 to 10.
+// Bytes 8 to 10. A width of its own, as each field has: were it a parameter, each call would owe its limit.
 fn low_three(raw: RawTrbBuffer) -> u32
     ensures { result ≡ field raw 2 0 24 }
 {
@@ -127,9 +127,9 @@ fn port_status_change_clear(raw: RawTrbBuffer) -> bool
         & (d.d3 / 0x1_0000 % 0x1_0000 == 0)
 }
 
-#[tactic(auto, unfolding(guest::specs::Refusals::by_number, guest::specs::Judge::judge))]
 // Of an event's fields and reserved bits each kind has its own; what two of them share is the code's line.
 
+#[tactic(auto, unfolding(guest::specs::Refusals::by_number, guest::specs::Judge::judge))]
 fn transfer(raw: RawTrbBuffer) -> Result<EventTrb, Unrecognized>
     ensures { result ≡ transfer_as raw }
 {
@@ -202,6 +202,7 @@ impl EventTrb {
         }
     }
 
+    // Matched by the type's number, as document 01 has it: a table of functions would say which is whose no more plainly.
     #[tactic(auto, unfolding(guest::specs::Refusals::by_number, crate::specs::Events::event_of))]
     pub fn parse(raw: RawTrbBuffer) -> Result<EventTrb, Unrecognized>
         ensures { result ≡ event_of raw }

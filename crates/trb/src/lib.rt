@@ -58,7 +58,7 @@ pub fn cycle_bit(raw: RawTrbBuffer) -> bool
 }
 
 // What the modules read of the bytes, each but `two` as the field of a dword that it is. At each call the place is a literal, of which the check
-// sees that it is below 16.
+// sees that it is below 16; where the width is one too, it stands in a function of its own (`endpoint_id`, `low_bits`), which asks nothing.
 
 // Bit `lo` of byte `at`.
 fn flag(raw: RawTrbBuffer, at: usize, lo: u8) -> bool

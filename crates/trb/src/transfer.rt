@@ -73,7 +73,7 @@ pub enum TransferTrbVariant {
     NoOp(NoOpTrb),
 }
 
-// Bytes 8 and 9 and bit 0 of byte 10.
+// Bytes 8 and 9 and bit 0 of byte 10. As with event.rt's `low_three`, the width is its own.
 fn transfer_length(raw: RawTrbBuffer) -> u32
     ensures { result ≡ field raw 2 0 17 }
 {
@@ -151,6 +151,7 @@ fn no_op(raw: RawTrbBuffer) -> NoOpTrb
 }
 
 impl TransferTrbVariant {
+    // Matched by the type's number, as with events.
     #[tactic(auto, unfolding(guest::specs::Refusals::by_number, crate::specs::Transfers::transfer_of))]
     pub fn parse(raw: RawTrbBuffer) -> Result<TransferTrbVariant, Unrecognized>
         ensures { result ≡ transfer_of raw }

@@ -23,7 +23,8 @@ use Rattle.trb.specs.Data.{data_of}
 use Rattle.trb.specs.declared.data.TrbDmaInfo.{TrbDmaInfo}
 use Rattle.trb.proofs.Pack.{cut}
 use Rattle.trb.proofs.Parts.{given}
-use Rattle.words.proofs.Back.{bytes_in, numbers_at, said_by, said_by_lem, read, nth, word, bit_lt}
+use Rattle.words.proofs.Back.{bytes_in, numbers_at, said_by, said_by_lem, read, word, bit_lt}
+use Rattle.trb.proofs.OneEncoding.{nth}
 use Rattle.trb_ffi.specs.Commands as command
 use Rattle.trb.specs.declared.link.LinkTrb.{LinkTrb}
 use Rattle.std.specs.Prelude.{Option, Some, None, Ok, Err}

@@ -5,6 +5,7 @@ use mathlib.Core.List.{List, [], ◌∷◌, ◌++◌}
 use Prim.Native.Nat.{ℕ, zero, suc, ◌/◌, ◌^◌, ◌≤◌}
 use native.Mathlib.Omega.{arith}
 use lib.Dec.{eqb}
+use Rattle.std.proofs.lemmas.Bool.{cond_both}
 use Rattle.guest.specs.Judge.{judge}
 use Rattle.guest.specs.Refusals.{by_number}
 use Rattle.guest.specs.Fields.{bytes_of, bytes_of_dwords, low_of, high_of, whole_of}
@@ -57,10 +58,6 @@ of_coded : (c : Bool) (k : Option CompletionCode) (f : CompletionCode → EventT
 of_coded c (Some k) f = of_event_lem c (f k)
 of_coded c None f = refused_12 c
 
-either : (c b : Bool) (x y : Given) → Goal c x → Goal c y → Goal c (cond b x y)
-either c true x y p q = p
-either c false x y p q = q
-
 other : (c : Bool) (t : ℕ) → Goal c (refused_with 10 t)
 unfolding Goal by_number
 other c t h = absurd (omega arith)
@@ -69,9 +66,9 @@ pub accepted : (ws : List ℕ) (c : Bool) → 2 ^ 8 ≤ (written (bytes_from (ev
 unfolding event_in Goal
 accepted ws c =
     let t = field_of ws 0 0 8 in
-    either c (eqb t types.transfer_event) _ _ (of_coded c (code_in ws) (transfer_in ws))
-    (either c (eqb t types.command_completion_event) _ _ (of_coded c (code_in ws) (command_completion_in ws))
-    (either c (eqb t types.port_status_change_event) _ _ (of_event_lem c (port_status_change_in ws)) (other c t)))
+    cond_both (eqb t types.transfer_event) _ _ (Goal c) (λ h. of_coded c (code_in ws) (transfer_in ws))
+    (λ h. cond_both (eqb t types.command_completion_event) _ _ (Goal c) (λ h. of_coded c (code_in ws) (command_completion_in ws))
+      (λ h. cond_both (eqb t types.port_status_change_event) _ _ (Goal c) (λ h. of_event_lem c (port_status_change_in ws)) (λ h. other c t)))
 
 -- ---- the bytes of an event's two numbers are its bytes
 

@@ -16,6 +16,7 @@ use Rattle.trb.specs.Trb.{bit, when, ◌or◌}
 use Rattle.trb.specs.Events.{pack, Typed, values_of_event}
 use Rattle.trb.specs.declared.event.EventTrb.{EventTrb}
 use Rattle.std.specs.Prelude.{Ok}
+use Rattle.trb.proofs.OneEncoding.{nth}
 use Rattle.trb.proofs.Pack.{cut, Fit, packed}
 use Rattle.words.specs.Events.{field_of, event_in, put_event}
 
@@ -41,9 +42,6 @@ said_by_lem places ws kind vs k e = ap (λ (t : ℕ). numbers_at (places t) ws) 
 -- the fields of a word that is the sum of them
 pub read : (widths vs : List ℕ) (n : ℕ) → n ≡ pack widths vs → Fit widths vs → cut widths 0 n ≡ vs
 read widths vs n e f = ap (cut widths 0) e ∙ (packed widths vs f).read
-
-pub nth : (i : ℕ) {xs ys : List ℕ} → xs ≡ ys → get_or xs i 0 ≡ get_or ys i 0
-nth i e = ap (λ (xs : List ℕ). get_or xs i 0) e
 
 -- of a word that is one number
 pub word : (p : ℕ) → p < 2 ^ 64 → bits p 0 64 ≡ p

@@ -1,6 +1,7 @@
-// An event as three words, written as a TRB and read back. The code stays a number here, which saves the way through the enum of codes: by it an
-// event written and read stays below its limits (docs/SPEED.md). Refusals are numbers, since what answers is C's answer, in registers. Of two functions
-// for two kinds of event each has fields and reserved bits of its own; what they share is `listed`, `refused`, `joined`.
+// An event as three words, written as a TRB and read back. Between words and TRB (`bytes`, `parse`) the code stays a number, which saves the way
+// through the enum of codes: by it an event written and read stays below its limits (docs/SPEED.md); and a refusal ends as a number, since what
+// answers is C's answer, in registers, with the event and its cycle bit beside it as C lends them. Of two functions for two kinds of event each has
+// fields and reserved bits of its own. By the type's number a `match` chooses, as document 01 has types matched.
 ghost use Rattle.std.specs.Prelude.{◌≡◌, Ok, Err, Bool, ◌+◌, ◌*◌, ◌%◌, ◌^◌, ◌<◌, eqb};
 ghost use Rattle.guest.specs.Fields.{whole_of};
 ghost use Rattle.codes.specs.Codes.{code_of};
@@ -222,7 +223,7 @@ pub fn parse(out: &mut [u64; 3], low: u64, high: u64) -> u16
     }
 }
 
-// ---- given, by value: a match on the type's number, as document 01 has types matched
+// ---- given, by value, for the whole rule. What two kinds share is the code's line.
 
 #[tactic(auto, unfolding(guest::specs::Refusals::by_number))]
 fn transfer_given(event: &[u64; 3]) -> Result<EventTrb, TrbParseError>
@@ -264,6 +265,7 @@ fn command_completion_given(event: &[u64; 3]) -> Result<EventTrb, TrbParseError>
     }))
 }
 
+// No `TryFrom`: what it is made from is words, which have no type of their own, and docs/PROMISES.md has the name.
 #[tactic(auto, unfolding(guest::specs::Refusals::by_number, crate::specs::Events::event_in))]
 pub fn given(event: &[u64; 3]) -> Result<EventTrb, TrbParseError>
     ensures { result ≡ event_in event.now }
