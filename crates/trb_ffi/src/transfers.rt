@@ -58,6 +58,7 @@ fn setup_length(d: SetupStageTrb) -> u64
     (d.length as u64) + (d.interrupt_on_completion as u64) * 0x1_0000
 }
 
+// One word is set by itself: as a slice it takes four instructions more, by which these parsers would pass their limit (docs/SPEED.md).
 fn put(out: &mut [u64; 4], variant: TransferTrbVariant)
     ensures { out.new ≡ lent.put (words_of variant) out.old }
 {
@@ -92,11 +93,12 @@ fn put(out: &mut [u64; 4], variant: TransferTrbVariant)
                 d.direction as u64,
             ],
         ),
-        TransferTrbVariant::StatusStage(d) => words::put(
-            out,
-            &[status(d.chain, d.interrupt_on_completion, d.direction)],
-        ),
-        TransferTrbVariant::Isoch => words::put(out, &[trb_types::ISOCH as u64]),
+        TransferTrbVariant::StatusStage(d) => {
+            out[0] = status(d.chain, d.interrupt_on_completion, d.direction);
+        }
+        TransferTrbVariant::Isoch => {
+            out[0] = trb_types::ISOCH as u64;
+        }
         TransferTrbVariant::EventData(d) => words::put(
             out,
             &[
@@ -105,10 +107,9 @@ fn put(out: &mut [u64; 4], variant: TransferTrbVariant)
                 event_data(d.chain, d.interrupt_on_completion),
             ],
         ),
-        TransferTrbVariant::NoOp(d) => words::put(
-            out,
-            &[flags(trb_types::NO_OP, d.chain, d.interrupt_on_completion)],
-        ),
+        TransferTrbVariant::NoOp(d) => {
+            out[0] = flags(trb_types::NO_OP, d.chain, d.interrupt_on_completion);
+        }
     }
 }
 
