@@ -108,8 +108,8 @@ fn found(ring: &mut CLinkedRing, place: u64, cycle: u64, links: u64, slot: Slot)
     }
 }
 
-// Links that leave nothing to note are followed here, for speed (docs/SPEED.md); where anything else is met, the whole rule begins anew. The next place is a Link's
-// pointer as it was read and not what is left of it after a mask, so that the next TRB can be read a step earlier.
+// Links that leave nothing to note are followed here, for speed (docs/SPEED.md); where anything else is met, the whole rule begins anew. The next
+// place is a Link's pointer as it was read and not what is left of it after a mask, so that the next TRB can be read a step earlier.
 pub fn lomvigast_next_trb(start: u64, mem: &[u8], ring: &mut CLinkedRing) -> CChase
     ensures { (result ≡ flat_chase (chase (window start mem.now) (ring_of ring.old)))
         × (ring.new ≡ ring_after (chase (window start mem.now) (ring_of ring.old)) ring.old) }
