@@ -230,7 +230,8 @@ pub fn write_trb(start: u64, mem: &mut [u8], address: u64, trb: [u8; 16]) -> Res
     Ok(())
 }
 
-// The bytes themselves, none where they are not all inside, as document 01 has the data part. Their own place in `mem` is promised, which a window's value does not say.
+// The bytes themselves, none where they are not all inside, as document 01 has the data part. Their own place in `mem` is promised, which a
+// window's value does not say.
 #[tactic(auto, using(crate::proofs::Memory::inside_within), unfolding(crate::specs::Judge::judge))]
 pub fn part(start: u64, mem: &[u8], address: u64, length: u64) -> &[u8]
     ensures { (result.now ≡ part_of (window start mem.now) address length)

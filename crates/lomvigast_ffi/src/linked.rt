@@ -12,7 +12,8 @@ use linked_ring::{Chase, Found, LinkedRing, Notes};
 // The place, and the cycle state as 0 or 1.
 pub type CLinkedRing = [u64; 2];
 
-// What a chase came to, as Rust and C hold it: byte 0 of `kind` is one of the numbers below, byte 1 a refusal's; `notes` has the links in two bytes, then a byte for each flag.
+// What a chase came to, as Rust and C hold it: byte 0 of `kind` is one of the numbers below, byte 1 a refusal's; `notes` has the links in two
+// bytes, then a byte for each flag.
 #[repr(C)]
 #[derive(Clone, Copy)]
 pub struct CChase {

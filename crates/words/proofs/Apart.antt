@@ -68,7 +68,7 @@ accepted ws c =
     let t = field_of ws 0 0 8 in
     cond_both (eqb t types.transfer_event) _ _ (Goal c) (λ h. of_coded c (code_in ws) (transfer_in ws))
     (λ h. cond_both (eqb t types.command_completion_event) _ _ (Goal c) (λ h. of_coded c (code_in ws) (command_completion_in ws))
-      (λ h. cond_both (eqb t types.port_status_change_event) _ _ (Goal c) (λ h. of_event_lem c (port_status_change_in ws)) (λ h. other c t)))
+    (λ h. cond_both (eqb t types.port_status_change_event) _ _ (Goal c) (λ h. of_event_lem c (port_status_change_in ws)) (λ h. other c t)))
 
 -- ---- the bytes of an event's two numbers are its bytes
 

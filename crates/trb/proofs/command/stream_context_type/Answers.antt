@@ -1,4 +1,4 @@
--- Bits of one byte.
+-- Bits of one byte. A line at the function does not find them, and their numbers are this answer's own.
 use Rattle.std.proofs.Common.{arith, rules, lit≤}
 use Rattle.trb.proofs.Raw.{Raw, byte_field}
 use Rattle.trb.proofs.command.stream_context_type.Goals as goal
