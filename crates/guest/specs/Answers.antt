@@ -26,7 +26,7 @@ abbrev pub number_at : Memory → ℕ → ℕ → Result ℕ Refusal
 number_at = number_as (λ n. n)
 
 abbrev pub trb_read : Memory → ℕ → Result (List ℕ) Refusal
-trb_read m a = touching m a 16 (trb_at m a)
+trb_read m a = bytes_read m a 16
 
 -- the same sixteen bytes as numbers: dword 3, and both halves
 abbrev pub slot_of : List ℕ → Slot

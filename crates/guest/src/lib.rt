@@ -89,8 +89,7 @@ impl<'a> Window<'a> {
     }
 
     // Whether all `length` bytes from `address` on are in the window: two numbers, as document 01 and C ask, and no type, in which there
-    // would be no fact. Of an address that is known to be a multiple of 16 the compiler
-    // sees that the third test passes.
+    // would be no fact. Of an address that is known to be a multiple of 16 the compiler sees that the third test passes.
     pub fn inside(&self, address: u64, length: u64) -> bool
         ensures { result ≡ inside self.now address length }
     {
