@@ -5,6 +5,7 @@ use std::fmt;
 
 use crate::fault::Fault;
 use crate::heads::Heads;
+use crate::reach::Known;
 use crate::source::{source, Function, Source};
 use crate::tree::{Crate, Tree, CRATES};
 use crate::{edits, pages, rules, symbols, theorems};
@@ -55,7 +56,7 @@ pub fn check(tree: &Tree, heads: Option<&Heads>) -> Report {
     faults.extend(edits::faults(tree));
     faults.extend(tree.crates.iter().flat_map(|one| exports(tree, one, &all)));
     faults.extend(heads.map_or(Vec::new(), |heads| heads.faults(&tree.crates, &sources)));
-    let traits = rules::traits(&sources);
+    let known = Known::over(&sources);
     let loose = pages::loose(&tree.loose);
     let promises = pages::promises(&tree.promises);
     for source in &sources {
@@ -64,7 +65,8 @@ pub fn check(tree: &Tree, heads: Option<&Heads>) -> Report {
             faults.extend(rules::promise(function, &promises));
         }
         let blocks = source.blocks.iter();
-        faults.extend(blocks.flat_map(|block| rules::block(block, source, &traits)));
+        faults.extend(blocks.flat_map(|block| rules::block(block, source, &known)));
+        faults.extend(known.faults(source));
     }
     let public: Vec<&Function> = all.into_iter().filter(|one| one.public).collect();
     let paths: HashSet<&str> = public.iter().map(|one| one.path.as_str()).collect();
@@ -211,6 +213,10 @@ pub struct LinkedRing {
     pub place: u64,
 }
 
+pub struct Moved {
+    pub ring: LinkedRing,
+}
+
 impl LinkedRing {
     pub const TRB_SIZE: u64 = 16;
 
@@ -284,8 +290,8 @@ pub fn f ( x : u8 ) -> u8\n    ensures { result ≡ x } ;\n";
             let found = beside(source, heads);
             assert_eq!(found.len(), told, "{source}\n{found:#?}");
         }
-        let hidden = "impl R { pub fn f(x: u8) -> u8 ensures { result ≡ x } { x } }";
-        let heads = "== crates/demo/src/lib.rt\nimpl R { pub fn f ( x : u8 ) -> u8 ensures { result ≡ x } ; }";
+        let hidden = "pub struct R; impl R { pub fn f(x: u8) -> u8 ensures { result ≡ x } { x } }";
+        let heads = "== crates/demo/src/lib.rt\npub struct R ; impl R { pub fn f ( x : u8 ) -> u8 ensures { result ≡ x } ; }";
         assert_eq!(beside(hidden, heads), [""; 0]);
         one_fault(
             &beside("", heads),

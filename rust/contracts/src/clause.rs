@@ -20,7 +20,7 @@
 //! ```text
 //! GIVES = λ x r. CLAUSE       of what was converted and what it gave: r stands for the result
 //! GIVEN = TERM                or  λ a b ... TERM
-//! VIEW  = λ w. TERM           over the fields of a struct, each as w.f, or w.f.now where it is a reference: all of them
+//! VIEW  = λ w. NAME w.f w.g.now ..    each field of a struct, once, as an argument of its own: w.f, or w.f.now of a reference
 //! KIND  = names that are brought in, `Self`, parentheses and →
 //! ```
 
@@ -115,7 +115,25 @@ pub fn view(text: &str, fields: &[String], imports: &Imports) -> Result<(), Stri
         of_fields: true,
         ..Scope::over(&over, imports)
     };
-    scope.term(&words)
+    scope.term(&words)?;
+    let arguments = words.get(1..).and_then(|words| fields_of(name, words));
+    match arguments == Some(fields.len()) {
+        true => Ok(()),
+        false => Err(format!(
+            "does not have each field once, as an argument `{name}.f` or `{name}.f.now`"
+        )),
+    }
+}
+
+/// How many arguments these words are, if each is a field of a variable and no more.
+fn fields_of(name: &str, words: &[&str]) -> Option<usize> {
+    match words {
+        [] => Some(0),
+        [w, ".", _, ".", "now", rest @ ..] | [w, ".", _, rest @ ..] if *w == name => {
+            Some(1 + fields_of(name, rest)?)
+        }
+        _ => None,
+    }
 }
 
 /// Why a text is not the type of a member.
@@ -600,7 +618,7 @@ mod tests {
         let fields = ["start", "bytes"].map(str::to_string);
         let of = |text: &str| view(text, &fields, &imports());
         assert_eq!(of("λ w. f w.start w.bytes.now"), Ok(()));
-        assert_eq!(of("λ v. (f (g v.bytes) v.start)"), Ok(()));
+        assert_eq!(of("λ v. f v.bytes v.start"), Ok(()));
         for text in [
             "f",
             "λ w. f w",
@@ -612,6 +630,11 @@ mod tests {
             "λ w v. f w.start w.bytes.now",
             "λ w. h w.start w.bytes.now",
             "λ w. f w. start w.bytes.now",
+            "λ w. f (w.start - w.start) w.bytes.now",
+            "λ w. f w.start - w.start w.bytes.now",
+            "λ w. f (g w.start) w.bytes.now",
+            "λ w. f w.start w.start w.bytes.now",
+            "λ w. f w.start w.bytes.now 0",
         ] {
             assert!(of(text).is_err(), "{text}");
         }

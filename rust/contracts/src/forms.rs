@@ -18,6 +18,12 @@ pub enum Refusal {
     At(Place),
 }
 
+pub struct Place {
+    pub at: u8,
+}
+
+pub struct Dwords(u32, u32, u32, u32);
+
 #[derive(Drop)]
 pub struct Window<'a> {
     start: u64,
@@ -349,6 +355,8 @@ ghost use Rattle.demo.specs.Demo.{Memory, window, inside, number_at, dwords_of, 
 use std :: fmt ;
 use std :: marker :: Model ;
 # [ derive ( Clone , Copy , Debug , PartialEq , Eq , Hash ) ] pub enum Refusal { Outside = 1 , At ( Place ) , }
+pub struct Place { pub at : u8 , }
+pub struct Dwords ( u32 , u32 , u32 , u32 ) ;
 # [ derive ( Drop ) ] pub struct Window < 'a > { start : u64 , bytes : & 'a [ u8 ] , }
 impl < 'a > Model for Window < 'a > {
     ghost Value = { Memory };

@@ -7,7 +7,7 @@
 //! 2. Its `ensures` clauses give its result, and each `&mut` parameter at exit, by an equation (src/clause.rs has the
 //!    form). A public trait's functions are public, and their clauses stand in the trait. The function of an impl of `From` or
 //!    `TryFrom` is public too, and the ghost member `from_gives` or `try_from_gives` is its equation. A file, an item, a head, a
-//!    clause or a ghost member of a form that is not known here is a fault.
+//!    clause or a ghost member of a form that is not known here is a fault, and so is a private type or trait in what is public.
 //! 3. Or docs/LOOSE.md lists it with a reason; it has an `ensures` all the same, or the reason says "no ensures".
 //! 4. docs/PROMISES.md names it, as `trb::event::EventTrb::parse`, `guest::FromWindow::read` of a trait and
 //!    `guest::<Dwords as From<[u8; 16]>>::from` of an impl, and neither page names a function that is not there.
@@ -33,6 +33,7 @@ mod forms;
 mod heads;
 mod lex;
 mod pages;
+mod reach;
 mod rules;
 mod source;
 mod symbols;

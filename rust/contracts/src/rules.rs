@@ -1,14 +1,15 @@
 //! The rules for public functions, and for the two pages that speak of them.
 
-use std::collections::{HashMap, HashSet};
+use std::collections::HashSet;
 
 use crate::clause::{equated, given, gives, kind, view, Subject};
 use crate::fault::Fault;
 use crate::pages::{Item, Promises};
+use crate::reach::Known;
 use crate::source::{
     converts, only_shows, Block, Function, Imports, Kind, Member, Parameter, Passed, Source,
 };
-use crate::tree;
+use crate::{symbols, tree};
 
 /// The item of docs/LOOSE.md that lists the function and gives a reason.
 pub fn reason<'a>(function: &Function, loose: &'a [Item]) -> Option<&'a Item> {
@@ -85,28 +86,18 @@ fn wanted(function: &Function) -> Vec<(Subject, String)> {
     found
 }
 
-/// The traits that the sources declare, and whether they are public.
-pub fn traits(sources: &[Source]) -> HashMap<&str, bool> {
-    let mut found = HashMap::new();
-    for block in sources.iter().flat_map(|source| &source.blocks) {
-        if let Kind::Trait { public } = block.kind {
-            *found.entry(block.of.as_str()).or_default() |= public;
-        }
-    }
-    found
-}
-
 /// The ghost members of a trait, or of an impl of one that is known here, have forms that are known, since contracts are made of them.
-pub fn block(block: &Block, source: &Source, traits: &HashMap<&str, bool>) -> Vec<Fault> {
+pub fn block(block: &Block, source: &Source, known: &Known) -> Vec<Fault> {
     let of = block.of.as_str();
     let fault = |line: usize, what: String| Fault::new(&source.file, line, &block.path, what);
-    let known = of == "Model" || converts(of) || only_shows(of);
-    if !known && !traits.contains_key(of) {
+    let public = known.of_trait(&block.module, &block.written);
+    let of_std = of == "Model" || converts(of) || only_shows(of);
+    if !of_std && public.is_none() {
         let what = format!("is of the trait `{of}`, which is not known here");
         return vec![fault(block.line, what)];
     }
     let told = |one: &Member| {
-        let what = member(one, block, source, traits).err()?;
+        let what = member(one, block, source, public).err()?;
         Some(fault(one.line, format!("its `{}` {what}", one.name)))
     };
     block.members.iter().filter_map(told).collect()
@@ -118,17 +109,21 @@ fn member(
     one: &Member,
     block: &Block,
     source: &Source,
-    traits: &HashMap<&str, bool>,
+    public: Option<bool>,
 ) -> Result<(), String> {
     let (of, imports) = (block.of.as_str(), &source.imports);
+    let brought = imports.contains(&one.name) || imports.modules.contains(&one.name);
     match &block.kind {
-        Kind::Trait { public: true } if imports.contains(&one.name) => {
+        Kind::Trait { public: true } if brought => {
             Err("is also brought in by a `ghost use`".to_string())
+        }
+        Kind::Trait { public: true } if symbols::is_held(&one.name) => {
+            Err("has a name that means what the library says".to_string())
         }
         Kind::Trait { public: true } => kind(&one.text, imports),
         Kind::Trait { public: false } => Ok(()),
         Kind::Impl { typed } if of == "Model" => model(one, typed, source),
-        Kind::Impl { .. } if converts(of) || traits.get(of) == Some(&false) => Ok(()),
+        Kind::Impl { .. } if converts(of) || public == Some(false) => Ok(()),
         Kind::Impl { .. } => given(&one.text, imports),
     }
 }

@@ -66,10 +66,33 @@ pub enum Kind {
 pub struct Block {
     pub line: usize,
     pub path: String,
+    pub module: String,
     pub kind: Kind,
-    /// The trait's name.
+    /// The trait's name, and its path as it is written there.
     pub of: String,
+    pub written: String,
     pub members: Vec<Member>,
+}
+
+/// Of what a `Made` tells.
+#[derive(Clone, Copy, Debug, PartialEq, Eq)]
+pub enum Thing {
+    Head,
+    Type,
+    Trait,
+    Impl,
+}
+
+/// A public head, type or trait, or an impl: what it is made of, by the paths that are written there.
+#[derive(Clone, Debug)]
+pub struct Made {
+    pub line: usize,
+    pub path: String,
+    pub module: String,
+    pub thing: Thing,
+    pub types: Vec<String>,
+    /// The traits that bound a head's types, that stand above a trait, or that an impl is of.
+    pub traits: Vec<String>,
 }
 
 /// A Rattle file: all its functions, and what it brings in for the clauses.
@@ -80,6 +103,11 @@ pub struct Source {
     pub blocks: Vec<Block>,
     /// The fields of its structs, by their paths.
     pub fields: HashMap<String, Vec<String>>,
+    /// The types that it declares, by their paths, and whether they are public.
+    pub types: HashMap<String, bool>,
+    /// What its `use` items bring in: by the path that a name has here, what it stands for.
+    pub brought: HashMap<String, String>,
+    pub made: Vec<Made>,
     pub imports: Imports,
     /// Its `ghost use` items as antt, each at its line.
     pub uses: String,
@@ -151,6 +179,7 @@ fn read(file: &str, module: &str, text: &str, bodiless: bool) -> Result<Source, 
             place: Place::File,
             ahead: None,
             words: Vec::new(),
+            paths: Vec::new(),
             further: None,
             members: Vec::new(),
             hidden: HashSet::new(),
@@ -231,6 +260,8 @@ struct Parser<'a> {
     ahead: Option<Word<'a>>,
     /// The words so far.
     words: Vec<&'a str>,
+    /// The paths of the types in what is read.
+    paths: Vec<String>,
     /// The first word, in what is read, of a type that only what is private may have.
     further: Option<&'a str>,
     /// The ghost members so far of the trait or impl that is read.
@@ -243,10 +274,14 @@ struct Parser<'a> {
     found: Source,
 }
 
-/// The types of a public function: the paths that they have if they are of its module, and what only a private one may have.
+/// The types of a function and their bounds, as they are written in its module, and what only a private one may have.
 struct Head<'a> {
     at: usize,
+    module: String,
     types: Vec<String>,
+    traits: Vec<String>,
+    /// The types between which a conversion's impl converts.
+    converted: Vec<String>,
     further: Option<&'a str>,
 }
 
@@ -326,9 +361,9 @@ impl<'a> Parser<'a> {
             }
             "const" => self.skip(";", &[]),
             "ghost" if !public && !exported => self.ghost(),
-            "type" if self.place == Place::Of => self.alias(public),
+            "type" if self.place == Place::Of => self.alias(path, public),
             word if !free || exported => self.unknown(word, "in place of a function"),
-            "type" => self.alias(public),
+            "type" => self.alias(path, public),
             "use" if !public => self.uses(),
             "struct" => self.structure(path, public),
             "enum" => self.enumeration(path, public),
@@ -430,10 +465,14 @@ impl<'a> Parser<'a> {
         let words = &self.words[first..];
         let own = |at: &usize| words[0] != "std" || words[at - 1] == "as";
         let taken = |at: &usize| OF_STD.contains(&words[*at]) && own(at);
-        match (1..words.len()).find(taken) {
-            Some(at) => self.unknown(words[at], "in a `use` that is not of std"),
-            None => Ok(()),
+        if let Some(at) = (1..words.len()).find(taken) {
+            return self.unknown(words[at], "in a `use` that is not of std");
         }
+        for (name, from) in leaves(words) {
+            let name = format!("{}::{name}", self.module);
+            self.found.brought.insert(name, from);
+        }
+        Ok(())
     }
 
     /// `ghost use M.{a, b as c};`, or `ghost use Rattle.C.specs.M as m;` The names that it brings in are kept, and its text for whoever asks
@@ -517,8 +556,8 @@ impl<'a> Parser<'a> {
     }
 
     /// A function, from its name to the end of its body.
-    fn function(&mut self, path: &str, public: bool, line: usize) -> Read<()> {
-        let path = format!("{path}::{}", self.name()?);
+    fn function(&mut self, around: &str, public: bool, line: usize) -> Read<()> {
+        let path = format!("{around}::{}", self.name()?);
         let mut function = Function {
             file: self.file.to_string(),
             line,
@@ -527,10 +566,10 @@ impl<'a> Parser<'a> {
             ..Function::default()
         };
         self.of_block(&mut function)?;
-        let first = self.words.len();
+        let mut traits = Vec::new();
         if self.peek()? == "<" {
             match function.public {
-                true => self.bounded(&mut function)?,
+                true => traits = self.bounded(&mut function)?,
                 false => self.angles()?,
             }
         }
@@ -540,33 +579,50 @@ impl<'a> Parser<'a> {
             self.expect("->")?;
             function.result = Some(self.kind()?);
         }
-        let (at, further) = (self.found.functions.len(), self.further.take());
-        if function.public {
-            let types = self.own(&self.words[first..]);
-            self.heads.push(Head { at, types, further });
+        let mut types = mem::take(&mut self.paths);
+        types.retain(|path| !function.types.contains(path));
+        if self.place == Place::Impl {
+            // What `self` and `Self` are.
+            types.extend(around.rsplit("::").next().map(str::to_string));
         }
+        self.heads.push(Head {
+            at: self.found.functions.len(),
+            module: self.module.clone(),
+            types,
+            traits,
+            converted: Vec::new(),
+            further: self.further.take(),
+        });
         self.clauses(&mut function)?;
         self.found.functions.push(function);
         Ok(())
     }
 
-    /// Holds the heads of public functions to what is declared: their types are public, and of forms that are known there. A conversion
-    /// with a private type is private.
+    /// Holds the heads of public functions to the forms that are known there. A conversion of a private type of its module, or to one, is
+    /// private.
     fn settle(&mut self) -> Read<()> {
-        for head in &self.heads {
+        for head in mem::take(&mut self.heads) {
             let function = &mut self.found.functions[head.at];
-            let hidden = head.types.iter().find(|path| self.hidden.contains(*path));
-            let what = match (hidden, head.further) {
-                (Some(_), _) if function.gives.is_some() => {
-                    function.public = false;
-                    continue;
-                }
-                (None, None) => continue,
-                (Some(path), _) => format!("has `{path}`, which is private, in a public head"),
-                (None, Some(word)) => format!("has `{word}` in a public head, {UNKNOWN}"),
-            };
+            let hidden = |path| self.hidden.contains(&format!("{}::{path}", head.module));
+            if head.converted.iter().any(hidden) {
+                function.public = false;
+            }
             let line = function.line;
-            return Err(Trouble { line, what });
+            match head.further {
+                _ if !function.public => continue,
+                Some(word) => {
+                    let what = format!("has `{word}` in a public head, {UNKNOWN}");
+                    return Err(Trouble { line, what });
+                }
+                None => self.found.made.push(Made {
+                    line,
+                    path: function.path.clone(),
+                    module: head.module,
+                    thing: Thing::Head,
+                    types: [head.types, head.converted].concat(),
+                    traits: head.traits,
+                }),
+            }
         }
         Ok(())
     }
@@ -627,6 +683,39 @@ impl<'a> Parser<'a> {
         self.expect(":")?;
         let passed = self.kind()?;
         Ok(Parameter { name, passed })
+    }
+}
+
+/// What the words of a `use` bring in, each name with the path that it stands for.
+fn leaves(words: &[&str]) -> Vec<(String, String)> {
+    let (mut found, mut path, mut around) = (Vec::new(), Vec::new(), vec![0]);
+    for word in words {
+        let base = around[around.len() - 1];
+        match *word {
+            "::" => {}
+            "{" => around.push(path.len()),
+            "," | "}" | ";" => {
+                found.extend(leaf(&path).filter(|_| path.len() > base));
+                if *word == "}" && around.len() > 1 {
+                    around.pop();
+                }
+                path.truncate(around[around.len() - 1]);
+            }
+            word => path.push(word),
+        }
+    }
+    found
+}
+
+/// The name of a path that ends in one, in `self` or in `as` and another.
+fn leaf(path: &[&str]) -> Option<(String, String)> {
+    let (name, from) = match path {
+        [from @ .., "as", name] => (name, from),
+        _ => (path.last()?, path),
+    };
+    match (name, from) {
+        (&"self", [from @ .., _]) => Some((from.last()?.to_string(), from.join("::"))),
+        (name, [from @ .., "self"]) | (name, from) => Some((name.to_string(), from.join("::"))),
     }
 }
 

@@ -80,6 +80,11 @@ fn home(name: &str) -> Option<&'static str> {
     }
 }
 
+/// Whether a name is a symbol's, or the library's own.
+pub fn is_held(name: &str) -> bool {
+    home(name).is_some() || LIBRARIES.contains(&bare(name))
+}
+
 /// The faults of a file of `specs/`, or of what a Rattle file brings in.
 pub fn faults(file: &str, text: &str) -> Vec<Fault> {
     let of_specs = file.ends_with(".antt");

@@ -16,7 +16,7 @@ const HIDDEN: &str = "demo::h: no equation of its result";
 const COMMENT: &str = "in a clause";
 
 /// Tricks with a whole file.
-const FILES: [(&str, &str); 71] = [
+const FILES: [(&str, &str); 102] = [
     ("pub fn f(x: u8) -> u8 /* ensures { result ≡ g x } */ { x }", NO_RESULT),
     ("/* \" */ pub fn h(x: u8) -> u8 { x } /* \" */", HIDDEN),
     ("pub fn f(n: &mut u8) ensures { do v ← ⟦*n⟧.exit; n.new ≡ v } {}", "an equation of `do v"),
@@ -66,6 +66,26 @@ const FILES: [(&str, &str); 71] = [
     ("struct W { to: &mut [u8] } pub fn f(w: W) {}", "has `demo::W`, which is private, in a public head"),
     ("pub fn f(w: &[W; 2]) {} pub(crate) enum W { A(u8) }", "has `demo::W`, which is private, in a public head"),
     ("pub trait T { fn f() -> Option<W>; } struct W;", "has `demo::W`, which is private, in a public head"),
+    ("pub fn f(w: Writer<'a>) {}", "has `Writer` in a public head, which the reader of contracts does not know"),
+    ("struct L<'a> { to: &'a mut [u8] } pub struct W<'a> { l: L<'a> } pub fn f(w: W<'_>) {}", "demo::W: has `demo::L`, which is private, in a public type"),
+    ("struct C { x: u8, ghost small: { x < 9 } } pub struct W { c: C } pub fn f(w: W) -> u8 ensures { result ≡ g w.c.x } { w.c.x }", "demo::W: has `demo::C`, which is private, in a public type"),
+    ("struct C { x: u8, ghost small: { x < 9 } } impl C { pub fn f(self) -> u8 ensures { result ≡ g self.x } { self.x } }", "demo::C::f: has `demo::C`, which is private, in a public head"),
+    ("struct C { x: u8, ghost small: { x < 9 } } type M = C; pub fn f(m: M) -> u8 ensures { result ≡ g m.x } { m.x }", "has `demo::M`, which is private, in a public head"),
+    ("struct C { x: u8, ghost small: { x < 9 } } type u8 = C; pub fn f(m: u8) -> bool ensures { result ≡ g m.x } { m.x }", "has `demo::u8`, which is private, in a public head"),
+    ("type M = Option<&'static mut [u8]>; pub fn f(m: M) {}", "has `demo::M`, which is private, in a public head"),
+    ("type M = Option<&'static mut [u8]>; pub type N = [M; 2]; pub fn f(n: N) {}", "demo::N: has `demo::M`, which is private, in a public type"),
+    ("type M = Option<&'static mut [u8]>; impl From<M> for u8 { ghost from_gives = { λ m r. r ≡ g m }; fn from(m: M) -> u8 { 1 } }", "has `demo::M`, which is private, in a public head"),
+    ("pub struct W; struct P; impl TryFrom<u8> for W { type Error = P; ghost try_from_gives = { λ x r. r ≡ g x }; fn try_from(x: u8) -> Result<W, P> { 1 } }", "try_from: has `demo::P`, which is private, in a public head"),
+    ("type M = Option<&'static mut [u8]>; pub trait R { fn f(self); } impl R for M { fn f(self) {} }", "demo::<M as R>: has `demo::M`, which is private, in an impl of a public trait"),
+    ("mod a { pub(crate) struct C { x: u8, ghost small: { x < 9 } } } use a::C; pub fn f(c: C) -> u8 ensures { result ≡ g c.x } { c.x }", "has `demo::a::C`, which is private, in a public head"),
+    ("mod a { pub(crate) struct C { x: u8, ghost small: { x < 9 } } } pub fn f(c: a::C) -> u8 ensures { result ≡ g c.x } { c.x }", "has `demo::a::C`, which is private, in a public head"),
+    ("use std::slice::IterMut; pub fn f(w: IterMut<'_>) {}", "has `IterMut` in a public head, which the reader of contracts does not know"),
+    ("use std::io::Result; pub fn f(w: Result<()>) {}", "has `Result` in a public head, which the reader of contracts does not know"),
+    ("pub fn f<W: std::io::Write>(out: W) {}", "has `std::io::Write` in a public head, which is no public trait"),
+    ("use std::io::Write; pub fn f<W: Write>(out: W) {}", "has `Write` in a public head, which is no public trait"),
+    ("trait Near { ghost m: { ℕ }; } impl Near for u8 { ghost m = { Rattle.demo.proofs.Laws.sly }; } pub fn f<T: Near>(x: u8) -> u8 ensures { result ≡ T.m } { x }", "has `Near` in a public head, which is no public trait"),
+    ("trait Near { ghost m: { ℕ }; } pub trait R: Near { fn f(x: u8) -> u8 ensures { result ≡ Self.m }; }", "demo::R: has `Near` above a public trait, which is no public trait"),
+    ("mod a { trait Near { fn f(); } } pub trait R { ghost m: { Self }; } use R as Near; impl Near for u8 { ghost m = { Rattle.demo.proofs.Laws.sly }; }", "its `m` has `Rattle`"),
     ("pub struct W<'a> { to: &'a mut [u8] } pub fn f(w: W<'_>) {}", "has `&` in a public type"),
     ("pub struct W<'a> { to: Option<&'a mut [u8]> } pub fn f(w: W<'_>) {}", "has `&` in a public type"),
     ("pub struct W { x: u8, ghost small: { x < 9 } } pub fn f(w: W) {}", "has `ghost` in a public type"),
@@ -89,9 +109,21 @@ const FILES: [(&str, &str); 71] = [
     ("ghost use Rattle.demo.specs.Demo;", "names nothing in braces"),
     ("ghost use Rattle.demo.specs.Demo.*;", "names nothing in braces"),
     ("impl R { ghost use Rattle.demo.specs.Sly.{g}; pub fn f(x: u8) -> u8 ensures { result ≡ g x } { x } }", "brings in `g` from two places"),
+    ("pub trait R { ghost length: { Self }; fn f(x: u8) -> u8 ensures { result ≡ length }; }", "its `length` has a name that means what the library says"),
+    ("pub trait R { ghost cond: { Self }; fn f(x: u8) -> u8 ensures { result ≡ cond }; }", "its `cond` has a name that means what the library says"),
+    ("pub trait R { ghost min: { Self }; fn f(x: u8) -> u8 ensures { result ≡ min }; }", "its `min` has a name that means what the library says"),
+    ("pub trait R { ghost Some: { Self → Self }; fn f(x: u8) -> u8 ensures { result ≡ Some x }; }", "its `Some` has a name that means what the library says"),
+    ("pub trait R { ghost Rattle: { Self }; fn f(x: u8) -> u8 ensures { result ≡ Rattle.demo.proofs.Laws.sly }; }", "its `Rattle` has a name that means what the library says"),
+    ("pub trait R { fn f(); } pub fn h<Rattle: R>(x: u8) -> u8 ensures { result ≡ Rattle.demo.proofs.Laws.sly } { x }", "has `Rattle` for what a function is over"),
+    ("pub fn f<const length: usize>() -> u8 ensures { result ≡ length } { x }", "has `length` for what a function is over"),
     ("pub trait R { ghost g: { g }; fn f(x: u8) -> u8 ensures { result ≡ g x }; }", "its `g` is also brought in by a `ghost use`"),
+    ("ghost use Rattle.demo.specs.Sly as m; pub trait R { ghost m: { g }; fn f(x: u8) -> u8 ensures { result ≡ m.x }; }", "its `m` is also brought in by a `ghost use`"),
     ("ghost use Rattle.demo.specs.Demo.{result}; pub fn f(x: u8) -> u8 ensures { result ≡ g x } { x }", "which is another thing's"),
     ("pub fn f(result: u8) -> u8 ensures { result ≡ g 1 } { x }", "which is another thing's"),
+    // Models.
+    ("ghost use Rattle.std.specs.Prelude.{◌-◌}; pub struct W<'a> { start: u64, bytes: &'a [u8] } impl<'a> Model for W<'a> { ghost Value = { g }; ghost view = { λ w. g (w.start - w.start) w.bytes.now }; }", "its `view` does not have each field once"),
+    ("pub struct W<'a> { start: u64, bytes: &'a [u8] } impl<'a> Model for W<'a> { ghost Value = { g }; ghost view = { λ w. g (last w.start) w.bytes.now }; }", "its `view` does not have each field once"),
+    ("pub struct W<'a> { start: u64, bytes: &'a [u8] } impl<'a> Model for W<'a> { ghost Value = { g }; ghost view = { λ w. g w.start w.start w.bytes.now }; }", "its `view` does not have each field once"),
 ];
 
 /// Tricks with the clause of `f(x: u8, s: &[u8], mem: &mut [u8]) -> u8`, whose other clauses are honest.

@@ -87,6 +87,8 @@ pub fn fill(mem: &mut [u8])
     ensures { length mem.new ≡ length mem.old }
 {
 }
+
+pub struct Ring { place: u64 }
 ";
 
 fn repository(name: &str) -> Repository {
@@ -154,6 +156,7 @@ pub fn new ( place : u64 ) -> Self
 }
 pub fn fill ( mem : & mut [ u8 ] )
     ensures { length mem.new ≡ length mem.old } ;
+pub struct Ring { place : u64 , }
 ";
 
 #[test]
@@ -204,6 +207,8 @@ impl From<u16> for Pair {
     ghost from_gives = { λ x r. r ≡ pair_of x };
     fn from(x: u16) -> Pair { Pair(x, x) }
 }
+
+pub struct Pair(u16, u16);
 ";
 
 /// The same as the compiler prints it.
@@ -228,6 +233,7 @@ fn read ( mem : & Window < '_ > , address : u64 ) -> Option < u16 > ;
     ghost from_gives = { λ x r. r ≡ pair_of x };
 fn from ( x : u16 ) -> Pair ;
 }
+pub struct Pair ( u16 , u16 ) ;
 ";
 
 #[test]

@@ -3,7 +3,7 @@
 use std::mem;
 
 use super::kinds::OF_STD;
-use super::{Block, Function, Head, Kind, Member, Parser, Place};
+use super::{Block, Function, Kind, Made, Member, Parser, Place, Thing};
 use crate::lex::Read;
 
 /// Of a trait of std whose function has its contract by what an impl says that it gives, the member that says it.
@@ -31,17 +31,24 @@ impl<'a> Parser<'a> {
         if OF_STD.contains(&name) {
             return self.unknown(name, "for a trait that is not std's");
         }
+        let mut traits = Vec::new();
         if self.peek()? == ":" {
             self.expect(":")?;
-            self.bounds()?;
+            traits = self.bounds()?;
         }
-        self.block(Block {
+        let block = Block {
             line,
             path: format!("{path}::{name}"),
+            module: self.module.clone(),
             kind: Kind::Trait { public },
             of: name.to_string(),
+            written: name.to_string(),
             members: Vec::new(),
-        })
+        };
+        if public {
+            self.made(&block, Thing::Trait, Vec::new(), traits);
+        }
+        self.block(block)
     }
 
     /// `impl T {`, or `impl A for T {`.
@@ -52,11 +59,15 @@ impl<'a> Parser<'a> {
         let of = self.words_of_type()?;
         if self.peek()? != "for" {
             self.further = None;
+            self.paths.clear();
             return self.of_type(path, &of);
         }
         self.expect("for")?;
         let typed = self.words_of_type()?;
         let further = self.further.take();
+        let mut paths = mem::take(&mut self.paths).into_iter();
+        let written = paths.next().unwrap_or_default();
+        let types: Vec<String> = paths.collect();
         let name = of.iter().take_while(|word| **word != "<").last();
         let name = *name.unwrap_or(&"");
         match further {
@@ -66,17 +77,33 @@ impl<'a> Parser<'a> {
             _ => self.given_name()?,
         }
         let first = self.found.functions.len();
-        self.block(Block {
+        let block = Block {
             line,
             path: format!("{path}::<{} as {}>", spelled(&typed), spelled(&of)),
+            module: self.module.clone(),
             kind: Kind::Impl {
                 typed: format!("{path}::{}", typed[0]),
             },
             of: name.to_string(),
+            written,
             members: Vec::new(),
-        })?;
-        self.conversion(first, self.own(&[of, typed].concat()), further);
+        };
+        let of = vec![block.written.clone()];
+        self.made(&block, Thing::Impl, types.clone(), of);
+        self.block(block)?;
+        self.conversion(first, &types, further);
         Ok(())
+    }
+
+    fn made(&mut self, block: &Block, thing: Thing, types: Vec<String>, traits: Vec<String>) {
+        self.found.made.push(Made {
+            line: block.line,
+            path: block.path.clone(),
+            module: block.module.clone(),
+            thing,
+            types,
+            traits,
+        });
     }
 
     /// The words of a type, or of a trait.
@@ -158,7 +185,7 @@ impl<'a> Parser<'a> {
     }
 
     /// The function of an impl of `From` or `TryFrom` is public, unless its types are private, and its contract is the member.
-    fn conversion(&mut self, first: usize, types: Vec<String>, further: Option<&'a str>) {
+    fn conversion(&mut self, first: usize, types: &[String], further: Option<&'a str>) {
         let Some(block) = self.found.blocks.last() else {
             return;
         };
@@ -167,25 +194,14 @@ impl<'a> Parser<'a> {
         };
         let given = block.members.iter().find(|one| one.name == member);
         let text = given.map(|one| one.text.clone()).unwrap_or_default();
-        for (at, function) in self.found.functions.iter_mut().enumerate().skip(first) {
+        for function in self.found.functions.iter_mut().skip(first) {
             function.public = true;
             function.gives = Some(text.clone());
-            let types = types.clone();
-            self.heads.push(Head { at, types, further });
         }
-    }
-
-    /// The paths of the names among these words that are a path by themselves, if they are of the module. A length is no type.
-    pub(super) fn own(&self, words: &[&str]) -> Vec<String> {
-        let (mut found, mut length) = (Vec::new(), false);
-        for (at, word) in words.iter().enumerate() {
-            length = *word == ";" || length && *word != "]";
-            let beside = [words.get(at + 1), words[..at].last()];
-            if !length && !beside.contains(&Some(&"::")) {
-                found.push(format!("{}::{word}", self.module));
-            }
+        for head in self.heads.iter_mut().filter(|head| head.at >= first) {
+            head.converted = types.to_vec();
+            head.further = head.further.or(further);
         }
-        found
     }
 }
 

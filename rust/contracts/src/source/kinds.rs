@@ -1,8 +1,11 @@
 //! Reads types: those of heads, and those that a file declares. What is public has types of few forms, and what is private may have
 //! further ones: such a one is noted where it stands, and is a fault once it is known to be public.
 
-use super::{Function, Parser, Passed, OF_ITEMS};
+use std::mem;
+
+use super::{Function, Made, Parser, Passed, Thing, OF_ITEMS};
 use crate::lex::Read;
+use crate::symbols::is_held;
 
 /// The types and traits of std that have types in angle brackets. A trait or a `use` of the repository's own may not have their names.
 pub(super) const OF_STD: [&str; 4] = ["Option", "Result", "From", "TryFrom"];
@@ -13,17 +16,29 @@ impl<'a> Parser<'a> {
     }
 
     /// What is declared is done. If it is public, nothing was noted.
-    fn done(&mut self, public: bool) -> Read<()> {
-        match self.further.take() {
-            Some(word) if public => self.unknown(word, "in a public type"),
-            _ => Ok(()),
+    fn done(&mut self, path: String, public: bool, line: usize) -> Read<()> {
+        let (types, further) = (mem::take(&mut self.paths), self.further.take());
+        match further {
+            Some(word) if public => return self.unknown(word, "in a public type"),
+            _ if public => self.found.made.push(Made {
+                line,
+                path: path.clone(),
+                module: self.module.clone(),
+                thing: Thing::Type,
+                types,
+                traits: Vec::new(),
+            }),
+            _ => {}
         }
+        self.found.types.insert(path, public);
+        Ok(())
     }
 
     /// A struct. If it is public it may hold a reference to be read, and none to be changed: what a value lends so would not be seen in
     /// a function's head.
     pub(super) fn structure(&mut self, path: &str, public: bool) -> Read<()> {
         let path = self.type_name(path, public)?;
+        let line = self.lexer.line();
         if self.peek()? == "<" {
             self.angles()?;
         }
@@ -31,7 +46,7 @@ impl<'a> Parser<'a> {
             ";" => {}
             "{" => {
                 let fields = self.fields(true)?;
-                self.found.fields.insert(path, fields);
+                self.found.fields.insert(path.clone(), fields);
             }
             "(" => {
                 self.unnamed(true)?;
@@ -39,12 +54,13 @@ impl<'a> Parser<'a> {
             }
             word => return self.unknown(word, "after a type's name"),
         }
-        self.done(public)
+        self.done(path, public, line)
     }
 
     /// An enum, of whose variants each may have a number.
     pub(super) fn enumeration(&mut self, path: &str, public: bool) -> Read<()> {
-        self.type_name(path, public)?;
+        let path = self.type_name(path, public)?;
+        let line = self.lexer.line();
         if self.peek()? == "<" {
             self.angles()?;
         }
@@ -58,7 +74,7 @@ impl<'a> Parser<'a> {
             }
         }
         self.expect("}")?;
-        self.done(public)
+        self.done(path, public, line)
     }
 
     fn variant(&mut self) -> Read<()> {
@@ -144,12 +160,13 @@ impl<'a> Parser<'a> {
     }
 
     /// `NAME = TYPE;`
-    pub(super) fn alias(&mut self, public: bool) -> Read<()> {
-        self.name()?;
+    pub(super) fn alias(&mut self, path: &str, public: bool) -> Read<()> {
+        let path = format!("{path}::{}", self.name()?);
+        let line = self.lexer.line();
         self.expect("=")?;
         self.plain()?;
         self.expect(";")?;
-        self.done(public)
+        self.done(path, public, line)
     }
 
     /// `&`, `&mut`, perhaps with a lifetime, or nothing.
@@ -213,11 +230,13 @@ impl<'a> Parser<'a> {
 
     fn path(&mut self) -> Read<()> {
         let first = self.name()?;
-        let mut last = first;
+        let (mut last, mut path) = (first, first.to_string());
         while self.peek()? == "::" {
             self.expect("::")?;
             last = self.name()?;
+            path = format!("{path}::{last}");
         }
+        self.paths.push(path);
         match self.peek()? {
             "(" if last.starts_with("Fn") => self.closure(),
             "<" if OF_STD.contains(&first) && first == last => self.arguments(),
@@ -274,16 +293,18 @@ impl<'a> Parser<'a> {
         Ok(())
     }
 
-    /// What a public function is over: lifetimes, types by their bounds, and numbers. A type with no bound might be anything.
-    pub(super) fn bounded(&mut self, function: &mut Function) -> Read<()> {
+    /// What a public function is over: lifetimes, types by their bounds, which are given back, and numbers. A type with no bound might
+    /// be anything.
+    pub(super) fn bounded(&mut self, function: &mut Function) -> Read<Vec<String>> {
+        let mut found = Vec::new();
         self.expect("<")?;
         loop {
             match self.peek()? {
-                ">" => return self.expect(">"),
+                ">" => return self.expect(">").map(|()| found),
                 "," => self.expect(",")?,
                 "const" => {
                     self.expect("const")?;
-                    function.names.push(self.name()?.to_string());
+                    function.names.push(self.over()?);
                     self.expect(":")?;
                     self.name()?;
                 }
@@ -291,22 +312,40 @@ impl<'a> Parser<'a> {
                     self.word()?;
                 }
                 _ => {
-                    function.types.push(self.name()?.to_string());
+                    function.types.push(self.over()?);
                     self.expect(":")?;
-                    self.bounds()?;
+                    found.extend(self.bounds()?);
                 }
             }
         }
     }
 
+    /// The name of such a type or number, which clauses may say.
+    fn over(&mut self) -> Read<String> {
+        match self.name()? {
+            name if is_held(name) => self.unknown(name, "for what a function is over"),
+            name => Ok(name.to_string()),
+        }
+    }
+
     /// Traits, joined by `+`.
-    pub(super) fn bounds(&mut self) -> Read<()> {
+    pub(super) fn bounds(&mut self) -> Read<Vec<String>> {
+        let (mut found, mut path) = (Vec::new(), String::new());
         loop {
-            self.name()?;
+            path.push_str(self.name()?);
             match self.peek()? {
-                "::" => self.expect("::")?,
-                "+" => self.expect("+")?,
-                _ => return Ok(()),
+                "::" => {
+                    self.expect("::")?;
+                    path.push_str("::");
+                }
+                "+" => {
+                    self.expect("+")?;
+                    found.push(mem::take(&mut path));
+                }
+                _ => {
+                    found.push(path);
+                    return Ok(found);
+                }
             }
         }
     }
