@@ -7,6 +7,7 @@
 #![tactic(auto)]
 
 mod counts;
+mod digits;
 mod input;
 mod kind;
 mod rings;

@@ -1,6 +1,7 @@
 // Lines about guest memory and the rings in it. What runs are the exports, so refusals and states are C's numbers here.
 ghost use Rattle.std.specs.Prelude.{◌≤◌, length};
 
+use crate::digits::write_numbers;
 use crate::input::Numbers;
 use crate::trbs::{Event, Trb};
 use lomvigast_ffi::rings::CEventRing;
@@ -42,7 +43,8 @@ impl<'a> Guest<'a> {
     pub(crate) fn make(&mut self, given: &Numbers, text: &mut impl Write) -> io::Result<()> {
         self.room[..self.size].fill(0);
         rings::lomvigast_reset(&mut self.ring);
-        write!(text, " {:x}:", given[1])
+        write_numbers(&[given[1]], text)?;
+        text.write_all(b":")
     }
 
     // Sixteen bytes put into memory.
@@ -51,9 +53,11 @@ impl<'a> Guest<'a> {
         let trb = Trb::read(given[2], given[3]);
         let memory = &mut self.room[..self.size];
         let refusal = memory::lomvigast_write_trb(START, memory, address, trb.low, trb.high);
-        write!(text, " {address:x} {trb}:")?;
+        write_numbers(&[address], text)?;
+        trb.write(text)?;
+        text.write_all(b":")?;
         if refusal != 0 {
-            write!(text, " {refusal:x}")?;
+            write_numbers(&[u64::from(refusal)], text)?;
         }
         Ok(())
     }
@@ -76,10 +80,15 @@ impl<'a> Guest<'a> {
             low: chase.low,
             high: chase.high,
         };
-        write!(text, " {place:x} {:x}:", cycle & 1)?;
-        write!(text, " {answer:x} {refusal:x} {address:x}")?;
-        write!(text, " {next:x} {next_cycle:x} {links:x}")?;
-        write!(text, " {cleared:x} {completion:x} {trb}")
+        write_numbers(&[place, cycle & 1], text)?;
+        text.write_all(b":")?;
+        write_numbers(
+            &[
+                answer, refusal, address, next, next_cycle, links, cleared, completion,
+            ],
+            text,
+        )?;
+        trb.write(text)
     }
 
     pub(crate) fn configure(&mut self, given: &Numbers, text: &mut impl Write) -> io::Result<()> {
@@ -87,7 +96,8 @@ impl<'a> Guest<'a> {
         let entries = (given[2] & 0xffff) as u16;
         let memory = &self.room[..self.size];
         let refusal = rings::lomvigast_configure(START, memory, &mut self.ring, table, entries);
-        write!(text, " {table:x} {entries:x}:")?;
+        write_numbers(&[table, u64::from(entries)], text)?;
+        text.write_all(b":")?;
         self.state(refusal, text)
     }
 
@@ -98,16 +108,17 @@ impl<'a> Guest<'a> {
         let memory = &mut self.room[..self.size];
         let refusal = rings::lomvigast_add(START, memory, &mut self.ring, &words, report);
         let sum = checksum(memory);
-        write!(text, " {event} {report:x}:")?;
+        event.write(text)?;
+        write_numbers(&[report], text)?;
+        text.write_all(b":")?;
         self.state(refusal, text)?;
-        write!(text, " {sum:x}")
+        write_numbers(&[sum], text)
     }
 
     // The refusal and the event ring's state.
     fn state(&self, refusal: u8, text: &mut impl Write) -> io::Result<()> {
         let [_, place, remaining, index, _, _, cycle] = self.ring;
-        write!(text, " {refusal:x} {index:x}")?;
-        write!(text, " {place:x} {remaining:x} {cycle:x}")
+        write_numbers(&[u64::from(refusal), index, place, remaining, cycle], text)
     }
 }
 
@@ -118,7 +129,9 @@ pub(crate) fn step(given: &Numbers, text: &mut impl Write) -> io::Result<()> {
     linked::lomvigast_set_place(&mut ring, place, cycle == 1);
     linked::lomvigast_advance(&mut ring);
     let [next, next_cycle] = ring;
-    write!(text, " {place:x} {:x}: {next:x} {next_cycle:x}", cycle & 1)
+    write_numbers(&[place, cycle & 1], text)?;
+    text.write_all(b":")?;
+    write_numbers(&[next, next_cycle], text)
 }
 
 // FNV-1a, 64 bits, of all bytes. The prime is 2^40 + 0x1b3.

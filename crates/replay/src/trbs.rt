@@ -1,9 +1,10 @@
 // Lines about single TRBs: the parsers, and events written. Of a word's fields the last is taken with all above it, so that what should
 // be 0 there shows. What runs are the exports, so kinds and refusals are C's numbers here.
+use crate::digits::{write_halves, write_numbers};
 use crate::input::Numbers;
 use codes::trb_types;
+use std::io;
 use std::io::Write;
-use std::{fmt, io};
 use trb_ffi::{commands, events, parts, transfers};
 
 // The events' types, as a word has them.
@@ -27,26 +28,24 @@ impl Trb {
             high: second.swap_bytes(),
         }
     }
-}
 
-impl fmt::Display for Trb {
-    fn fmt<W: fmt::Write>(&self, f: &mut fmt::Formatter<W>) -> fmt::Result {
-        let first = self.low.swap_bytes();
-        let second = self.high.swap_bytes();
-        write!(f, "{first:016x}{second:016x}")
+    pub(crate) fn write(self, text: &mut impl Write) -> io::Result<()> {
+        write_halves(self.low.swap_bytes(), self.high.swap_bytes(), text)
     }
 }
 
 // What a parser's words say: the type and its fields, or a refusal and the TRB, whose bytes stand in them from byte 1 on.
-fn write_parsed<F: fmt::Display + Default + Drop>(
+fn write_parsed<const N: usize>(
     words: [u64; 3],
-    fields: F,
+    fields: [u64; N],
     text: &mut impl Write,
 ) -> io::Result<()> {
     let [a, b, c] = words;
     let trb_type = a & 0xff;
     if trb_type != 0 {
-        return write!(text, "0 {trb_type:x} {fields} {}", Trb::default());
+        write_numbers(&[0, trb_type], text)?;
+        write_numbers(&fields, text)?;
+        return Trb::default().write(text);
     }
     let refusal = c >> 8 & 0xff;
     let trb_type = c >> 16;
@@ -54,7 +53,9 @@ fn write_parsed<F: fmt::Display + Default + Drop>(
         low: a >> 8 | b << 56,
         high: b >> 8 | c << 56,
     };
-    write!(text, "{refusal:x} {trb_type:x} {} {raw}", F::default())
+    write_numbers(&[refusal, trb_type], text)?;
+    write_numbers(&[0; N], text)?;
+    raw.write(text)
 }
 
 #[derive(Clone, Copy, Default)]
@@ -102,11 +103,17 @@ impl From<[u64; 3]> for Command {
     }
 }
 
-impl fmt::Display for Command {
-    fn fmt<W: fmt::Write>(&self, f: &mut fmt::Formatter<W>) -> fmt::Result {
-        write!(f, "{:x} {:x}", self.pointer, self.stream)?;
-        write!(f, " {:x} {:x}", self.flag, self.context_type)?;
-        write!(f, " {:x} {:x}", self.endpoint, self.slot)
+impl Command {
+    // In the order of a line.
+    fn fields(&self) -> [u64; 6] {
+        [
+            self.pointer,
+            self.stream,
+            self.flag,
+            self.context_type,
+            self.endpoint,
+            self.slot,
+        ]
     }
 }
 
@@ -114,8 +121,9 @@ pub(crate) fn parse_command(given: &Numbers, text: &mut impl Write) -> io::Resul
     let trb = Trb::read(given[1], given[2]);
     let mut words = [0; 3];
     commands::lomvigast_parse_command(&mut words, trb.low, trb.high);
-    write!(text, " {trb}: ")?;
-    write_parsed(words, Command::from(words), text)
+    trb.write(text)?;
+    text.write_all(b":")?;
+    write_parsed(words, Command::from(words).fields(), text)
 }
 
 #[derive(Clone, Copy, Default)]
@@ -168,14 +176,22 @@ impl From<[u64; 4]> for Transfer {
     }
 }
 
-impl fmt::Display for Transfer {
-    fn fmt<W: fmt::Write>(&self, f: &mut fmt::Formatter<W>) -> fmt::Result {
-        write!(f, "{:x} {:x}", self.pointer, self.length)?;
-        write!(f, " {:x} {:x}", self.value, self.index)?;
-        write!(f, " {:x} {:x}", self.byte_0, self.byte_1)?;
-        write!(f, " {:x} {:x}", self.short, self.chain)?;
-        write!(f, " {:x} {:x}", self.completion, self.immediate)?;
-        write!(f, " {:x}", self.direction)
+impl Transfer {
+    // In the order of a line.
+    fn fields(&self) -> [u64; 11] {
+        [
+            self.pointer,
+            self.length,
+            self.value,
+            self.index,
+            self.byte_0,
+            self.byte_1,
+            self.short,
+            self.chain,
+            self.completion,
+            self.immediate,
+            self.direction,
+        ]
     }
 }
 
@@ -185,20 +201,21 @@ pub(crate) fn parse_transfer(given: &Numbers, text: &mut impl Write) -> io::Resu
     let mut words = [0; 4];
     transfers::lomvigast_parse_transfer(&mut words, trb.low, trb.high);
     let [a, b, c, _] = words;
-    write!(text, " {trb}: ")?;
-    write_parsed([a, b, c], Transfer::from(words), text)
+    trb.write(text)?;
+    text.write_all(b":")?;
+    write_parsed([a, b, c], Transfer::from(words).fields(), text)
 }
 
 pub(crate) fn parse_link(given: &Numbers, text: &mut impl Write) -> io::Result<()> {
     let trb = Trb::read(given[1], given[2]);
     let link = parts::lomvigast_parse_link(trb.low, trb.high);
-    let is_link = u8::from(link.link);
-    let pointer = link.pointer;
-    let cleared = u8::from(link.cleared);
-    let toggle = u8::from(link.toggle);
-    let completion = u8::from(link.completion);
-    write!(text, " {trb}: {is_link} {pointer:x}")?;
-    write!(text, " {cleared} {toggle} {completion}")
+    let is_link = u64::from(link.link);
+    let cleared = u64::from(link.cleared);
+    let toggle = u64::from(link.toggle);
+    let completion = u64::from(link.completion);
+    trb.write(text)?;
+    text.write_all(b":")?;
+    write_numbers(&[is_link, link.pointer, cleared, toggle, completion], text)
 }
 
 #[derive(Clone, Copy)]
@@ -244,14 +261,19 @@ impl Event {
             _ => [0, 0, 0],
         }
     }
-}
 
-impl fmt::Display for Event {
-    fn fmt<W: fmt::Write>(&self, f: &mut fmt::Formatter<W>) -> fmt::Result {
-        write!(f, "{:x} {:x}", self.trb_type & 0xff, self.pointer)?;
-        write!(f, " {:x} {:x}", self.length, self.code)?;
-        write!(f, " {:x} {:x}", self.event_data, self.endpoint)?;
-        write!(f, " {:x} {:x}", self.slot, self.port)
+    pub(crate) fn write(&self, text: &mut impl Write) -> io::Result<()> {
+        let fields = [
+            self.trb_type & 0xff,
+            self.pointer,
+            self.length,
+            self.code,
+            self.event_data,
+            self.endpoint,
+            self.slot,
+            self.port,
+        ];
+        write_numbers(&fields, text)
     }
 }
 
@@ -259,13 +281,17 @@ pub(crate) fn write_event(given: &Numbers, text: &mut impl Write) -> io::Result<
     let event = Event::from(*given);
     let cycle = given[9];
     let written = events::lomvigast_event_bytes(&event.words(), u64::from(cycle == 1));
-    write!(text, " {event} {:x}:", cycle & 1)?;
+    event.write(text)?;
+    write_numbers(&[cycle & 1], text)?;
+    text.write_all(b":")?;
     if written.high < 0x100 {
-        return write!(text, " {:x} {}", written.high, Trb::default());
+        write_numbers(&[written.high], text)?;
+        return Trb::default().write(text);
     }
+    write_numbers(&[0], text)?;
     let trb = Trb {
         low: written.low,
         high: written.high,
     };
-    write!(text, " 0 {trb}")
+    trb.write(text)
 }
