@@ -104,7 +104,7 @@ abbrev pub refusal_shown : Parsed EventTrb → ℕ
 refusal_shown (Ok e) = 0
 refusal_shown (Err u) = refusal.number_of u.error.refusal + u.error.trb_type * 2 ^ 8
 
--- the number of what refuses a given event, 0 where nothing does
-abbrev pub number_of_given : Given → ℕ
-number_of_given (Ok e) = 0
-number_of_given (Err x) = refusal.number_of x.refusal
+-- the number of what refuses a given event, by what shows it, and 0 where nothing does
+abbrev pub number_of_given : {E : Type 0} → (E → ℕ) → Result EventTrb E → ℕ
+number_of_given shown (Ok e) = 0
+number_of_given shown (Err x) = shown x

@@ -2,8 +2,9 @@
 // through the enum of codes: by it an event written and read stays below its limits (docs/SPEED.md); and a refusal ends as a number, since what
 // answers is C's answer, in registers, with the event and its cycle bit beside it as C lends them. Of two functions for two kinds of event each has
 // fields and reserved bits of its own. By the type's number a `match` chooses, as document 01 has types matched.
-ghost use Rattle.std.specs.Prelude.{◌≡◌, Ok, Err, Bool, ◌+◌, ◌*◌, ◌%◌, ◌^◌, ◌<◌, eqb};
+ghost use Rattle.std.specs.Prelude.{◌≡◌, ℕ, Ok, Err, Bool, ◌+◌, ◌*◌, ◌%◌, ◌^◌, ◌<◌, eqb};
 ghost use Rattle.guest.specs.Fields.{whole_of};
+ghost use Rattle.guest.specs.Refusals.{number_of};
 ghost use Rattle.codes.specs.Codes.{code_of};
 ghost use Rattle.trb.specs.Events.{is_listed, transfer_as, command_completion_as, port_status_change_as, event_of};
 ghost use Rattle.words.specs.Events.{refused_with, coded, code_in, transfer_in, command_completion_in, port_status_change_in, event_in, bytes_from, written, put_variant, refusal_shown, number_of_given};
@@ -143,18 +144,12 @@ fn transfer_read(out: &mut [u64; 3], low: u64, high: u64) -> u16
     if !((d3 / 2 % 2 == 0) & (d3 / 8 % 0x80 == 0)) {
         return Refusal::Reserved.number() as u16;
     }
-    crate::put(
-        out,
-        &[
-            trb_types::TRANSFER_EVENT as u64,
-            low,
-            d2 % 0x100_0000
-                + code * 0x1_0000_0000
-                + d3 / 4 % 2 * 0x100_0000_0000
-                + d3 / 0x1_0000 % 0x100 * 0x1_0000_0000_0000
-                + d3 / 0x100_0000 % 0x100 * 0x100_0000_0000_0000,
-        ],
-    );
+    let coded = d2 % 0x100_0000
+        + code * 0x1_0000_0000
+        + d3 / 4 % 2 * 0x100_0000_0000
+        + d3 / 0x1_0000 % 0x100 * 0x1_0000_0000_0000
+        + d3 / 0x100_0000 % 0x100 * 0x100_0000_0000_0000;
+    crate::put(out, &[trb_types::TRANSFER_EVENT as u64, low, coded]);
     0
 }
 
@@ -171,13 +166,10 @@ fn command_completion_read(out: &mut [u64; 3], low: u64, high: u64) -> u16
     if !((low % 0x10 == 0) & (d3 / 2 % 0x200 == 0) & (d3 / 0x1_0000 % 0x100 == 0)) {
         return Refusal::Reserved.number() as u16;
     }
+    let coded = d2 % 0x100_0000 + code * 0x1_0000_0000 + d3 / 0x100_0000 % 0x100 * 0x100_0000_0000;
     crate::put(
         out,
-        &[
-            trb_types::COMMAND_COMPLETION_EVENT as u64,
-            low,
-            d2 % 0x100_0000 + code * 0x1_0000_0000 + d3 / 0x100_0000 % 0x100 * 0x100_0000_0000,
-        ],
+        &[trb_types::COMMAND_COMPLETION_EVENT as u64, low, coded],
     );
     0
 }
@@ -286,12 +278,37 @@ pub fn given(event: &[u64; 3]) -> Result<EventTrb, TrbParseError>
     }
 }
 
+// What says why something is refused: a number itself, or what holds a refusal.
+pub trait Numbered {
+    // The number that it says.
+    ghost shown: { Self → ℕ };
+
+    fn number(self) -> u8
+        ensures { result ≡ shown self };
+}
+
+impl Numbered for u8 {
+    ghost shown = { λ n. n };
+
+    fn number(self) -> u8 {
+        self
+    }
+}
+
+impl Numbered for TrbParseError {
+    ghost shown = { λ e. number_of e.refusal };
+
+    fn number(self) -> u8 {
+        self.refusal.number()
+    }
+}
+
 // The number of what refuses a given event, 0 where nothing does, for C.
-pub fn number(given: Result<EventTrb, TrbParseError>) -> u8
-    ensures { result ≡ number_of_given given }
+pub fn number<E: Numbered>(given: Result<EventTrb, E>) -> u8
+    ensures { result ≡ number_of_given E.shown given }
 {
     match given {
         Ok(_) => 0,
-        Err(e) => e.refusal.number(),
+        Err(e) => e.number(),
     }
 }
