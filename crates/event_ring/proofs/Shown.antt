@@ -1,19 +1,21 @@
 -- What configure, add and take answer says all that their definitions say: the number, and the ring or the reader afterwards, which a refusal leaves as
 -- they were. A definition in specs/Answers.antt that hides or exchanges something, and code that follows it, fails here. Assumes nothing.
 use Prim.{tt}
-use Rattle.std.proofs.Common.{◌≡◌, ℕ, ◌<◌, Bool, true, false, cond, [], ◌∷◌, ◌++◌, refl, ap, lit<}
+use Rattle.std.proofs.Common.{◌≡◌, ℕ, ◌<◌, Bool, true, false, cond, [], ◌∷◌, ◌++◌, sym, refl, ap, ◌∙◌, lit<}
 use Rattle.std.specs.Prelude.{Option, Some, None, Result, Ok, Err}
 use Rattle.guest.specs.Judge.{Tests}
 use Rattle.guest.specs.Memory.{Memory, trb_at}
 use Rattle.guest.specs.Refusals.{number_of, by_number}
 use Rattle.guest.specs.declared.refusal.Refusal.{Refusal}
-use Rattle.guest.proofs.Numbers.{Listed, judged, by_number_back, as_result_some}
+use Rattle.guest.proofs.Numbers.{Listed, judged, numbered, by_number_back, as_result_some}
 use Rattle.trb.specs.declared.event.EventTrb.{EventTrb}
 use Rattle.event_ring.specs.Answers.{Moved, moved, ReaderMoved, reader_moved, Take, TakeMoved, taken_as}
+use Rattle.event_ring.specs.Ring as ring
 use Rattle.event_ring.specs.Ring.{last, entry_tests, next_tests, next_state, refused_at, moved_to, configure_tests, started, configured, add_tests, added, of_reader, reader_configured, fresh_of, take_tests, take_refused, nothing_at, taken_at, take}
 use Rattle.event_ring.specs.declared.EventRing.{EventRing}
 use Rattle.event_ring.specs.declared.EventReader.{EventReader}
 use Rattle.event_ring.specs.declared.Taken.{Taken}
+use Rattle.event_ring.proofs.Standard.{take_apart}
 
 -- ---- an answer, read by whoever called with the ring s or the reader q
 
@@ -94,3 +96,40 @@ take_told m q =
         ≡ cond b (taken_at (trb_at m q.state.place) (next_state m q.state)) (nothing_at q)
     by true = refl
     by false = refl
+
+-- ---- number and values tell the answers of a take apart: what it answered, without the bytes and the reader that are handed out
+
+abbrev pub bare : Result (Option Taken) Refusal → Result Bool Refusal
+bare (Ok (Some t)) = Ok true
+bare (Ok None) = Ok false
+bare (Err d) = Err d
+
+-- document 01's answer of it
+abbrev pub answer_of : Result (Option Taken) Refusal → Take
+answer_of (Ok (Some t)) = Take.Event
+answer_of (Ok None) = Take.Nothing
+answer_of (Err d) = Take.Refused (number_of d)
+
+-- which is the definition's
+pub answer_told : (m : Memory) (q : EventReader) → answer_of (taken_as (take m q)) ≡ (take m q).answer
+answer_told m q = by (taken_as (take m q)) ∙ ap (λ (x : TakeMoved). x.answer) (take_told m q)
+  where
+    by : (a : Result (Option Taken) Refusal) → answer_of a ≡ (as_take q a).answer
+    by (Ok (Some t)) = refl
+    by (Ok None) = refl
+    by (Err d) = refl
+
+bare_of : Take → Result Bool Refusal
+bare_of Take.Event = Ok true
+bare_of Take.Nothing = Ok false
+bare_of (Take.Refused n) = Err (by_number n)
+
+bare_back : (a : Result (Option Taken) Refusal) → bare_of (answer_of a) ≡ bare a
+unfolding bare_of
+bare_back (Ok (Some t)) = refl
+bare_back (Ok None) = refl
+bare_back (Err d) = ap Err (numbered d)
+
+pub told_apart : (a b : Result (Option Taken) Refusal) → ring.number_of (answer_of a) ≡ ring.number_of (answer_of b) → ring.values_of (answer_of a) ≡ ring.values_of (answer_of b)
+    → bare a ≡ bare b
+told_apart a b n v = sym (bare_back a) ∙ ap bare_of (take_apart (answer_of a) (answer_of b) n v) ∙ bare_back b

@@ -189,5 +189,5 @@ told_back Take.Event = refl
 told_back Take.Nothing = refl
 told_back (Take.Refused n) = refl
 
-pub told_apart : (a b : Take) → number_of a ≡ number_of b → values_of a ≡ values_of b → a ≡ b
-told_apart a b n v = sym (told_back a) ∙ ap₂ told n v ∙ told_back b
+pub take_apart : (a b : Take) → number_of a ≡ number_of b → values_of a ≡ values_of b → a ≡ b
+take_apart a b n v = sym (told_back a) ∙ ap₂ told n v ∙ told_back b

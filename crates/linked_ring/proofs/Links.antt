@@ -1,6 +1,6 @@
 -- What the chase's answers mean, at any memory: how many links were followed, where they lead, and what stands there; and the marked
 -- cases L1 and L2. Assumes nothing.
-use Rattle.std.proofs.Common.{◌≡◌, ℕ, zero, suc, ◌+◌, ◌<◌, ◌≤◌, Bool, true, false, cond, not, ◌||◌, eqb, ◌↔◌, List, [], ◌∷◌, ◌++◌, Option, Some, None, sym, refl, ap, ◌∙◌, subst, ap₂, true≢false, add-one, arith, length-append, below_none, below_more}
+use Rattle.std.proofs.Common.{◌≡◌, ℕ, zero, suc, ◌+◌, ◌<◌, ◌≤◌, Bool, true, false, cond, not, ◌||◌, eqb, ◌↔◌, List, [], ◌∷◌, ◌++◌, replicate, Option, Some, None, sym, refl, ap, ◌∙◌, subst, ap₂, true≢false, add-one, arith, length-append, below_none, below_more}
 use mathlib.Core.Bool.{beq, or_self}
 use native.Mathlib.Decide.{dec_le}
 use Rattle.std.proofs.lemmas.Bool.{false_from_ne_true}
@@ -16,7 +16,7 @@ use Rattle.guest.proofs.Numbers.{numbered}
 use Rattle.trb.specs.Trb.{cycle_of}
 use Rattle.trb.specs.Links.{link_of}
 use Rattle.trb.specs.declared.link.LinkTrb.{LinkTrb}
-use Rattle.linked_ring.specs.Chase.{look, seen, onward, chase_from, chase, ended, found, followed, fresh_of, noted, unnoted, ring_at, number_of, found_value, values_of}
+use Rattle.linked_ring.specs.Chase.{look, seen, onward, chase_from, chase, ended, found, address_of, bytes_of, followed, fresh_of, noted, unnoted, ring_at, number_of, found_value, values_of}
 use Rattle.linked_ring.specs.Hops.{IsFresh, hop, after, links_of, notes_over}
 use Rattle.linked_ring.specs.declared.LinkedRing.{LinkedRing}
 use Rattle.linked_ring.specs.declared.Notes.{Notes}
@@ -130,11 +130,15 @@ way_more m e r n k l w s =
 
 -- ---- how a chase ends
 
+-- fields with nothing to show are 0
+abbrev pub NoTrb : Found → Type 0
+NoTrb f = (bytes_of f ≡ replicate 16 0) × (address_of f ≡ 0)
+
 -- what was found, by what stands at the place where the chase ended
 abbrev pub Ending : Memory → ℕ → Chase → Found → Type 0
 Ending m limit c (Found.Trb t) = Fresh m c.ring None × (t.address ≡ c.ring.place) × (t.buffer ≡ trb_at m t.address)
-Ending m limit c Found.NothingNew = Stale m c.ring
-Ending m limit c Found.TooManyLinks = (c.notes.links ≡ limit) × ((l : LinkTrb) × Fresh m c.ring (Some l))
+Ending m limit c Found.NothingNew = Stale m c.ring × NoTrb Found.NothingNew
+Ending m limit c Found.TooManyLinks = (c.notes.links ≡ limit) × ((l : LinkTrb) × Fresh m c.ring (Some l)) × NoTrb Found.TooManyLinks
 
 -- at most so many links, which are the hops from e that led to the ring answered
 pub record Reaches (m : Memory) (e : LinkedRing) (limit : ℕ) (c : Chase) : Type 0 where
@@ -142,9 +146,29 @@ pub record Reaches (m : Memory) (e : LinkedRing) (limit : ℕ) (c : Chase) : Typ
   pub way : Way m e c.ring c.notes c.notes.links
   pub ending : Ending m limit c c.found
 
--- refusal 1, of the place that at most so many hops by fresh Links lead to; nothing is handed out beside it
+-- document 01's answer whole, as whoever asked with the ring e has it: beside a refusal the ring is still e, nothing is noted, and there is no TRB
+abbrev pub ring_left : LinkedRing → Result Chase Refusal → LinkedRing
+ring_left e (Ok c) = c.ring
+ring_left e (Err r) = e
+
+abbrev pub notes_left : Result Chase Refusal → Notes
+notes_left (Ok c) = c.notes
+notes_left (Err r) = unnoted
+
+abbrev pub address_left : Result Chase Refusal → ℕ
+address_left (Ok c) = address_of c.found
+address_left (Err r) = 0
+
+abbrev pub bytes_left : Result Chase Refusal → List ℕ
+bytes_left (Ok c) = bytes_of c.found
+bytes_left (Err r) = replicate 16 0
+
+-- refusal 1, of the place that at most so many hops by fresh Links lead to, with the ring of the entry
 pub record Refused (m : Memory) (e : LinkedRing) (limit : ℕ) (r : Refusal) : Type 0 where
   pub number : number_of (Err r) ≡ 1
+  pub ring : ring_left e (Err r) ≡ e
+  pub notes : notes_left (Err r) ≡ unnoted
+  pub trb : (bytes_left (Err r) ≡ replicate 16 0) × (address_left (Err r) ≡ 0)
   pub at : (k : ℕ) × (k ≤ limit) × Outside m (after m k e) × Linked m e k
 
 abbrev pub Ends : Memory → LinkedRing → ℕ → Result Chase Refusal → Type 0
@@ -157,15 +181,15 @@ module _ (m : Memory) (e : LinkedRing) (limit : ℕ) where
   unfolding by_number
   look_ends r n k h w next =
       look_cases m r n k (Ends m e limit)
-      (λ o. record { number = refl; at = (n.links, h, rw (← w.there) o, w.links) })
-      (λ o. record { bounded = h; way = w; ending = o })
+      (λ o. record { number = refl; ring = refl; notes = refl; trb = (refl, refl); at = (n.links, h, rw (← w.there) o, w.links) })
+      (λ o. record { bounded = h; way = w; ending = (o, (refl, refl)) })
       (λ o. record { bounded = h; way = w; ending = (o, refl, refl) })
       next
 
   onward_ends : (left : ℕ) (r : LinkedRing) (n : Notes) (l : LinkTrb) → n.links + left ≡ limit → Way m e r n n.links → Fresh m r (Some l)
       → Ends m e limit (onward m left r n l)
   unfolding onward
-  onward_ends zero r n l h w s = record { bounded = omega arith; way = w; ending = (omega arith, (l, s)) }
+  onward_ends zero r n l h w s = record { bounded = omega arith; way = w; ending = (omega arith, (l, s), (refl, refl)) }
   onward_ends (suc left) r n l h w s =
       let w' = way_more m e r n n.links l w s in
       look_ends (followed r l) (noted n l) (onward m left (followed r l) (noted n l)) (omega arith) w'
@@ -182,8 +206,8 @@ chase_ends m r =
 pub never_nothing : (m : Memory) (r : LinkedRing) (l : LinkTrb) (c : Chase) → chase m r ≡ Ok c → Fresh m c.ring (Some l) → c.found ≡ Found.NothingNew → ⊥
 never_nothing m r l c is s f =
     let ends : Reaches m r 256 c = subst (Ends m r 256) is (chase_ends m r) in
-    let told : Stale m c.ring = subst (Ending m 256 c) f ends.ending in
-    told.stale s.fresh
+    let told : Ending m 256 c Found.NothingNew = subst (Ending m 256 c) f ends.ending in
+    told.0.stale s.fresh
 
 -- what a chase of r found
 abbrev pub Answers : Memory → LinkedRing → Found → Type 0
@@ -217,7 +241,7 @@ module _ (m : Memory) (r : LinkedRing) where
   found_so c Found.NothingNew e p all =
       let o = rw p at e.ending in
       let s = all c.notes.links e.bounded in
-      absurd (o.stale (rw e.way.there s.1.fresh))
+      absurd (o.0.stale (rw e.way.there s.1.fresh))
   found_so c Found.TooManyLinks e p all = refl
 
   ended_so : (a : Result Chase Refusal) → chase m r ≡ a → Ends m r 256 a → EndlessLinks m r → Answers m r Found.TooManyLinks

@@ -1,6 +1,6 @@
 -- Following links, xHCI 4.9.2 and 4.11.5.1 with document 01's limit: what the reader answers at a place, by the number of links that
 -- may still be followed.
-use Rattle.std.specs.Prelude.{ℕ, zero, suc, ◌+◌, ◌%◌, ◌^◌, Bool, true, false, not, ◌||◌, List, [], ◌∷◌, Option, Some, None, Result, Ok, Err}
+use Rattle.std.specs.Prelude.{ℕ, zero, suc, ◌+◌, ◌%◌, ◌^◌, Bool, true, false, not, ◌||◌, List, [], ◌∷◌, Option, Some, None, Result, Ok, Err, replicate}
 use Rattle.std.specs.Bool.{beq}
 use Rattle.guest.specs.declared.refusal.Refusal.{Refusal}
 use Rattle.guest.specs.Refusals.{outside, by_number}
@@ -49,6 +49,17 @@ noted n l =
 
 abbrev pub ended : Found → LinkedRing → Notes → Result Chase Refusal
 ended f r n = Ok (record { found = f; ring = r; notes = n })
+
+-- the TRB's address and its sixteen bytes; 0s where there is none
+abbrev pub address_of : Found → ℕ
+address_of Found.NothingNew = 0
+address_of (Found.Trb t) = t.address
+address_of Found.TooManyLinks = 0
+
+abbrev pub bytes_of : Found → List ℕ
+bytes_of Found.NothingNew = replicate 16 0
+bytes_of (Found.Trb t) = t.buffer
+bytes_of Found.TooManyLinks = replicate 16 0
 
 -- a TRB stands at the ring's place
 abbrev pub found : List ℕ → LinkedRing → Notes → Result Chase Refusal

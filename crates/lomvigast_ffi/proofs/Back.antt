@@ -4,7 +4,8 @@ use Prim.{tt}
 use Rattle.std.proofs.Common.{◌≡◌, ℕ, ◌+◌, ◌*◌, ◌%◌, ◌^◌, ◌<◌, Bool, true, false, cond, eqb, List, [], ◌∷◌, length, refl, ap, arith, lt-ltb}
 use Rattle.guest.specs.Judge.{judge}
 use Rattle.guest.specs.Memory.{Memory, inside, trb_at}
-use Rattle.guest.specs.Fields.{bits, whole_of}
+use Rattle.guest.specs.Bytes.{le}
+use Rattle.guest.specs.Fields.{bits, bytes_of, low_of, high_of, whole_of}
 use Rattle.guest.proofs.Bytes.{Bytes}
 use Rattle.guest.proofs.Fields.{whole_halves}
 use Rattle.trb.specs.Trb.{bit, when, ◌or◌, one_of}
@@ -22,7 +23,9 @@ use Rattle.guest.proofs.Numbers.{numbered, number_lt}
 use Rattle.linked_ring.specs.declared.Chase.{Chase}
 use Rattle.trb.proofs.OneEncoding.{nth}
 use Rattle.words.proofs.Back.{read, bit_lt}
-use Rattle.lomvigast_ffi.specs.Linked.{ring_of, ring_words, ring_after, notes_word, flat_chase}
+use Rattle.linked_ring.specs.Chase as chase
+use Rattle.linked_ring.proofs.Links.{ring_left, notes_left, address_left, bytes_left}
+use Rattle.lomvigast_ffi.specs.Linked.{ring_of, ring_words, ring_after, refused_kind, notes_word, flat_chase}
 use Rattle.lomvigast_ffi.specs.declared.linked.CChase.{CChase}
 use Rattle.lomvigast_ffi.specs.Rings.{words_of, fits, state_of, take_number}
 
@@ -102,12 +105,36 @@ came_back Found.NothingNew r n ws w h = rw (ring_back r, notes_back n h)
 came_back (Found.Trb t) r n ws w h = rw (whole_halves t.buffer w.0 w.1, ring_back r, notes_back n h)
 came_back Found.TooManyLinks r n ws w h = rw (ring_back r, notes_back n h)
 
+-- a refusal's word says any number that a byte holds
+pub refusal_back : (n : ℕ) → n < 2 ^ 8 → (bits (refused_kind n) 0 8 ≡ 3) × (bits (refused_kind n) 8 8 ≡ n)
+refusal_back n h =
+    let g = read (8 ∷ 8 ∷ []) (3 ∷ n ∷ []) (refused_kind n) (omega arith) (omega arith, (h, tt)) in
+    (nth 0 g, nth 1 g)
+
 -- whatever words a refusal left as they were
 pub chase_back : (c : Result Chase Refusal) (ws : List ℕ) → Fitting c → chase_in (flat_chase c) (ring_after c ws) ≡ c
 chase_back (Ok c) ws f = came_back c.found c.ring c.notes ws f.0 f.1
 chase_back (Err r) ws f =
-    let g = read (8 ∷ 8 ∷ []) (3 ∷ number_of r ∷ []) (3 + number_of r * 2 ^ 8) (omega arith) (omega arith, (number_lt r, tt)) in
-    rw (nth 0 g, nth 1 g) (ap Err (numbered r))
+    let p = refusal_back (number_of r) (number_lt r) in
+    rw (p.0, p.1) (ap Err (numbered r))
+
+-- and every word says what document 01 shows: the address, the sixteen bytes, the notes and the ring, also where there is nothing to show
+pub record AllShown (c : Result Chase Refusal) (ws : List ℕ) : Type 0 where
+  pub address : (flat_chase c).address ≡ address_left c
+  pub bytes : whole_of (flat_chase c).low (flat_chase c).high ≡ bytes_left c
+  pub notes : notes_in (flat_chase c).notes ≡ notes_left c
+  pub ring : ring_of (ring_after c ws) ≡ ring_left (ring_of ws) c
+
+pub chase_shown : (c : Result Chase Refusal) (ws : List ℕ) → Fitting c → AllShown c ws
+unfolding le bytes_of
+chase_shown (Ok c) ws f =
+    record { address = refl; bytes = by c.found f.0; notes = notes_back c.notes f.1; ring = ring_back c.ring }
+  where
+    by : (x : Found) → Whole x → whole_of (low_of (chase.bytes_of x)) (high_of (chase.bytes_of x)) ≡ chase.bytes_of x
+    by Found.NothingNew w = refl
+    by (Found.Trb t) w = whole_halves t.buffer w.0 w.1
+    by Found.TooManyLinks w = refl
+chase_shown (Err r) ws f = record { address = refl; bytes = refl; notes = refl; ring = refl }
 
 -- ---- what a take came to: no refusal of a take has the number of an event or of nothing
 

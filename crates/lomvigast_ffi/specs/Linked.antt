@@ -1,10 +1,10 @@
 -- The link-following reader by words: the ring is two, its place and its cycle state, 0 or 1.
-use Rattle.std.specs.Prelude.{ℕ, ◌+◌, ◌*◌, ◌%◌, ◌^◌, List, [], ◌∷◌, ◌==◌, slice_index, replicate, Result, Ok, Err}
+use Rattle.std.specs.Prelude.{ℕ, ◌+◌, ◌*◌, ◌%◌, ◌^◌, List, [], ◌∷◌, ◌==◌, slice_index, Result, Ok, Err}
 use Rattle.guest.specs.Refusals as refusals
 use Rattle.guest.specs.Fields.{low_of, high_of}
 use Rattle.guest.specs.declared.refusal.Refusal.{Refusal}
 use Rattle.trb.specs.Trb.{bit}
-use Rattle.linked_ring.specs.Chase.{ring_at}
+use Rattle.linked_ring.specs.Chase.{ring_at, address_of, bytes_of}
 use Rattle.linked_ring.specs.declared.LinkedRing.{LinkedRing}
 use Rattle.linked_ring.specs.declared.Notes.{Notes}
 use Rattle.linked_ring.specs.declared.Found.{Found}
@@ -22,22 +22,14 @@ abbrev pub ring_after : Result Chase Refusal → List ℕ → List ℕ
 ring_after (Ok c) ws = ring_words c.ring
 ring_after (Err r) ws = ws
 
--- the answers by number, of which 3 is a refusal's
+-- the answers by number, of which 3 is a refusal's, with the number that it has above
 abbrev pub kind_of : Found → ℕ
 kind_of Found.NothingNew = 0
 kind_of (Found.Trb t) = 1
 kind_of Found.TooManyLinks = 2
 
--- the TRB's address and its sixteen bytes; 0s where there is none
-abbrev pub address_of : Found → ℕ
-address_of Found.NothingNew = 0
-address_of (Found.Trb t) = t.address
-address_of Found.TooManyLinks = 0
-
-abbrev pub bytes_of : Found → List ℕ
-bytes_of Found.NothingNew = replicate 16 0
-bytes_of (Found.Trb t) = t.buffer
-bytes_of Found.TooManyLinks = replicate 16 0
+abbrev pub refused_kind : ℕ → ℕ
+refused_kind n = 3 + n * 2 ^ 8
 
 abbrev pub notes_word : Notes → ℕ
 notes_word n = n.links + bit n.cleared * 2 ^ 16 + bit n.completion * 2 ^ 24
@@ -53,4 +45,4 @@ flat_chase (Ok c) =
       high = high_of (bytes_of c.found);
       notes = notes_word c.notes;
     }
-flat_chase (Err r) = record { kind = 3 + refusals.number_of r * 2 ^ 8; address = 0; low = 0; high = 0; notes = 0 }
+flat_chase (Err r) = record { kind = refused_kind (refusals.number_of r); address = 0; low = 0; high = 0; notes = 0 }

@@ -109,7 +109,7 @@ raw_in ws = (bytes_in ws 1 7 + bytes_in ws 8 1 * 2 ^ 56) ∷ (bytes_in ws 9 7 + 
 -- ---- what was parsed is two numbers, and the words that are lent may hold anything
 
 module _ (low high : ℕ) (l : low < 2 ^ 64) (h : high < 2 ^ 64) (a b c : ℕ) where
-  -- a refusal, in three words or more
+  -- a refusal of any number that a byte holds, in three words or more
   module _ (ds : List ℕ) (number type : ℕ) (n : number < 2 ^ 8) (t : type < 2 ^ 8) where
     abbrev w0 : ℕ
     w0 = low % 2 ^ 56 * 2 ^ 8
@@ -132,14 +132,19 @@ module _ (low high : ℕ) (l : low < 2 ^ 64) (h : high < 2 ^ 64) (a b c : ℕ) w
     abbrev ws : List ℕ
     ws = command.refused low high number type (a ∷ b ∷ c ∷ ds)
 
-    refused_kind : bytes_in ws 0 1 ≡ 0
+    pub refused_kind : bytes_in (command.refused low high number type (a ∷ b ∷ c ∷ ds)) 0 1 ≡ 0
     refused_kind = nth 0 first
 
-    refused_raw : raw_in ws ≡ low ∷ high ∷ []
+    pub refused_raw : raw_in (command.refused low high number type (a ∷ b ∷ c ∷ ds)) ≡ low ∷ high ∷ []
     refused_raw = rw (nth 1 first, nth 0 second, nth 1 second, nth 0 third) (ap₂ (λ (x y : ℕ). x ∷ y ∷ []) (omega arith) (omega arith))
 
-    refused_said : numbers_at ((17, 1) ∷ (18, 1) ∷ []) ws ≡ number ∷ type ∷ []
-    refused_said = ap (λ (xs : List ℕ). get_or xs 1 0 ∷ get_or xs 2 0 ∷ []) third
+    refused_numbers : numbers_at ((17, 1) ∷ (18, 1) ∷ []) ws ≡ number ∷ type ∷ []
+    refused_numbers = ap (λ (xs : List ℕ). get_or xs 1 0 ∷ get_or xs 2 0 ∷ []) third
+
+    -- read as a command's words are, or a transfer's
+    pub refused_said : (places : ℕ → List (ℕ × ℕ)) → places 0 ≡ (17, 1) ∷ (18, 1) ∷ []
+        → said_by places (command.refused low high number type (a ∷ b ∷ c ∷ ds)) ≡ number ∷ type ∷ []
+    refused_said places e = said_by_lem places ws 0 _ refused_kind (rw e refused_numbers)
 
   -- ---- commands
 
@@ -180,9 +185,7 @@ module _ (low high : ℕ) (l : low < 2 ^ 64) (h : high < 2 ^ 64) (a b c : ℕ) w
       said_by_lem command_places (command.put v low high lent) 17 _ (nth 0 g) g
   command_said (Ok CommandTrbVariant.ForceHeader) y = refl
   command_said (Err u) y =
-      let v : Parsed CommandTrbVariant = Err u in
-      let k = refused_kind [] (number_of u.error.refusal) u.error.trb_type (number_lt u.error.refusal) y in
-      said_by_lem command_places (command.put v low high lent) 0 _ k (refused_said [] (number_of u.error.refusal) u.error.trb_type (number_lt u.error.refusal) y)
+      refused_said [] (number_of u.error.refusal) u.error.trb_type (number_lt u.error.refusal) y command_places refl
 
   pub command_raw : (u : Unrecognized) → CommandTyped (Err u)
       → raw_in (command.put (Err u) low high lent) ≡ low ∷ high ∷ []
@@ -224,9 +227,7 @@ module _ (low high : ℕ) (l : low < 2 ^ 64) (h : high < 2 ^ 64) (a b c : ℕ) w
         let g = three_read 8 (bit x.chain) (bit x.interrupt_on_completion) (omega arith) (bit_lt x.chain) (bit_lt x.interrupt_on_completion) in
         said_by_lem transfer_places (transfer.put v low high four) 8 _ (nth 0 g) g
     transfer_said (Err u) y =
-        let v : Parsed TransferTrbVariant = Err u in
-        let k = refused_kind (d ∷ []) (number_of u.error.refusal) u.error.trb_type (number_lt u.error.refusal) y in
-        said_by_lem transfer_places (transfer.put v low high four) 0 _ k (refused_said (d ∷ []) (number_of u.error.refusal) u.error.trb_type (number_lt u.error.refusal) y)
+        refused_said (d ∷ []) (number_of u.error.refusal) u.error.trb_type (number_lt u.error.refusal) y transfer_places refl
 
     pub transfer_raw : (u : Unrecognized) → TransferTyped (Err u)
         → raw_in (transfer.put (Err u) low high four) ≡ low ∷ high ∷ []

@@ -62,3 +62,8 @@ loop-links-preserved c =
     (ap (λ (n : ℕ). n / 0x400 % 0x40) (sym number) ∙ c.if-slot.false)
     (ap (λ (n : ℕ). n / 0x20 % 2) (sym number) ∙ eqb-true _ _ plain.0) in
     (omega arith, omega arith, v.2, rw read.is (sym on ∙ v.3))
+
+-- Where the whole rule begins anew, the ring is the one that was lent. Without this answer the check finds it too, and of
+-- must-fail/refusal_keeps_moved_place it would say that it gave up, and not what differs.
+pub returns : goal.returns
+returns c = rw (← c.loop-links.invariant.2) c.chase.ensures
