@@ -104,32 +104,17 @@ bare (Ok (Some t)) = Ok true
 bare (Ok None) = Ok false
 bare (Err d) = Err d
 
--- document 01's answer of it
-abbrev pub answer_of : Result (Option Taken) Refusal → Take
-answer_of (Ok (Some t)) = Take.Event
-answer_of (Ok None) = Take.Nothing
-answer_of (Err d) = Take.Refused (number_of d)
-
--- which is the definition's
-pub answer_told : (m : Memory) (q : EventReader) → answer_of (taken_as (take m q)) ≡ (take m q).answer
-answer_told m q = by (taken_as (take m q)) ∙ ap (λ (x : TakeMoved). x.answer) (take_told m q)
-  where
-    by : (a : Result (Option Taken) Refusal) → answer_of a ≡ (as_take q a).answer
-    by (Ok (Some t)) = refl
-    by (Ok None) = refl
-    by (Err d) = refl
-
 bare_of : Take → Result Bool Refusal
 bare_of Take.Event = Ok true
 bare_of Take.Nothing = Ok false
 bare_of (Take.Refused n) = Err (by_number n)
 
-bare_back : (a : Result (Option Taken) Refusal) → bare_of (answer_of a) ≡ bare a
+bare_back : (q : EventReader) (a : Result (Option Taken) Refusal) → bare_of (as_take q a).answer ≡ bare a
 unfolding bare_of
-bare_back (Ok (Some t)) = refl
-bare_back (Ok None) = refl
-bare_back (Err d) = ap Err (numbered d)
+bare_back q (Ok (Some t)) = refl
+bare_back q (Ok None) = refl
+bare_back q (Err d) = ap Err (numbered d)
 
-pub told_apart : (a b : Result (Option Taken) Refusal) → ring.number_of (answer_of a) ≡ ring.number_of (answer_of b) → ring.values_of (answer_of a) ≡ ring.values_of (answer_of b)
-    → bare a ≡ bare b
-told_apart a b n v = sym (bare_back a) ∙ ap bare_of (take_apart (answer_of a) (answer_of b) n v) ∙ bare_back b
+pub told_apart : (q : EventReader) (a b : Result (Option Taken) Refusal) → ring.number_of (as_take q a).answer ≡ ring.number_of (as_take q b).answer
+    → ring.values_of (as_take q a).answer ≡ ring.values_of (as_take q b).answer → bare a ≡ bare b
+told_apart q a b n v = sym (bare_back q a) ∙ ap bare_of (take_apart (as_take q a).answer (as_take q b).answer n v) ∙ bare_back q b
